@@ -1,0 +1,3 @@
+-- What contracts see of a vector and of a text.
+pub mod TryString
+pub mod TryVec

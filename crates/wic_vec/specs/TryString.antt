@@ -1,0 +1,18 @@
+-- What a contract sees of a `TryString`.
+use Rattle.std.specs.Prelude.{◌≡◌, ℕ, ◌+◌, ◌≤◌, List, length, refl}
+use Rattle.std.specs.Coded.{Coded, code_by, coded×, coded_ℕ, coded_list}
+
+-- the UTF-8 bytes of the text, and how many bytes fit with no request for memory
+pub record TryString : Type 0 where
+  pub bytes : List ℕ
+  pub capacity : ℕ
+
+-- a text is stored as the pair of its fields
+abbrev pub try_string_code : Coded TryString
+try_string_code =
+    code_by (List ℕ × ℕ) (coded× (coded_list coded_ℕ) coded_ℕ) (λ s. (s.bytes, s.capacity))
+    (λ p. record { bytes = p.0; capacity = p.1 }) (λ _. refl)
+
+-- so many more bytes fit with no request for memory
+abbrev pub HasRoomFor : TryString → ℕ → Type 0
+HasRoomFor s more = length s.bytes + more ≤ s.capacity

@@ -1,0 +1,19 @@
+-- What a contract sees of a `TryVec`.
+use Rattle.std.specs.Prelude.{◌≡◌, ℕ, ◌+◌, ◌≤◌, ◌<◌, List, length, refl}
+use Rattle.std.specs.Coded.{Coded, code_by, coded×, coded_ℕ, coded_list}
+
+-- the elements in order, and how many fit with no request for memory
+pub record TryVec (T : Type 0) : Type 0 where
+  pub items : List T
+  pub capacity : ℕ
+
+-- a vector is stored as the pair of its fields
+abbrev pub try_vec_code : {T : Type 0} → Coded T → Coded (TryVec T)
+try_vec_code {T} code =
+    code_by (List T × ℕ) (coded× (coded_list code) coded_ℕ) (λ v. (v.items, v.capacity))
+    (λ p. record { items = p.0; capacity = p.1 }) (λ _. refl)
+
+module _ {T : Type 0} where
+  -- so many more elements fit with no request for memory
+  abbrev pub HasRoomFor : TryVec T → ℕ → Type 0
+  HasRoomFor v more = length v.items + more ≤ v.capacity

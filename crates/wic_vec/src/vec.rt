@@ -1,0 +1,155 @@
+//! A vector whose growth can be refused.
+ghost use Rattle.std.specs.Prelude.{◌≡◌, ◌+◌, ◌<◌, ◌≤◌, ◌↔◌, ◌==◌, [], ◌∷◌, ◌++◌, length, IsOk, IsSome, IfOk, IfSome, IfNone, OnOk, OnErr};
+ghost use Rattle.wic_vec.specs.TryVec.{HasRoomFor};
+
+use std::alloc::Global;
+use std::marker::Model;
+use wic_base::OutOfMemory;
+
+/// A vector whose growth can be refused: each call that may want memory answers `OutOfMemory`.
+///
+/// A contract sees its elements, `items`, and its `capacity`: how many elements it holds with no request for
+/// memory. A port of `wasmtime_internal_core::alloc::TryVec`.
+#[derive(Drop)]
+pub struct TryVec<T> {
+    inner: Vec<T>,
+    // What `capacity` answers. The vector inside has room for at least as many.
+    capacity: usize,
+}
+
+impl<T> Model for TryVec<T> {
+    ghost use Rattle.std.specs.Prelude.{◌≤◌, vec_len, vec_capacity};
+    ghost use Rattle.wic_vec.specs.TryVec.{TryVec as Sequence, try_vec_code};
+
+    ghost Value = { Sequence T };
+
+    ghost coded = { try_vec_code T.code };
+
+    ghost view = { λ v. record { items = v.inner.items; capacity = v.capacity } };
+
+    ghost invariant = { λ v. (vec_len v.inner ≤ v.capacity) × (v.capacity ≤ vec_capacity v.inner) };
+}
+
+impl<T> TryVec<T> {
+    /// The empty vector, of capacity 0. It takes no memory.
+    ///
+    /// A port of `TryVec::new`.
+    pub fn new(alloc: Global) -> TryVec<T>
+        ensures empty { result.items ≡ [] }
+        ensures capacity { result.capacity ≡ 0 }
+    {
+        TryVec {
+            inner: Vec::new(alloc),
+            capacity: 0,
+        }
+    }
+
+    /// The empty vector with room for at least `capacity` elements. A capacity of 0 is never refused.
+    ///
+    /// A port of `TryVec::with_capacity`.
+    pub fn with_capacity(alloc: Global, capacity: usize) -> Result<TryVec<T>, OutOfMemory>
+        ensures empty { IfOk result (λ v. v.items ≡ []) }
+        ensures capacity { IfOk result (λ v. capacity ≤ v.capacity) }
+        ensures zero_never_refused { capacity ≡ 0 → IsOk result }
+    {
+        match Vec::with_capacity(alloc, capacity) {
+            Ok(inner) => Ok(TryVec { inner, capacity }),
+            Err(_) => Err(wanting(0, capacity)),
+        }
+    }
+
+    /// Makes room for `additional` more elements than there are. Elements stay, and so does the vector as a whole
+    /// where it has that room. After a refusal it is as before.
+    ///
+    /// A port of `TryVec::reserve`.
+    pub fn reserve(&mut self, additional: usize) -> Result<(), OutOfMemory>
+        ensures same_items { self.new.items ≡ self.old.items }
+        ensures room { OnOk result (HasRoomFor self.new additional) }
+        ensures never_refused_within { HasRoomFor self.old additional → IsOk result }
+        ensures refused_only_beyond { OnErr result (self.old.capacity < length self.old.items + additional) }
+        ensures unchanged_within { HasRoomFor self.old additional → self.new ≡ self.old }
+        ensures capacity_never_falls { self.old.capacity ≤ self.new.capacity }
+        ensures refusal_leaves { OnErr result (self.new ≡ self.old) }
+    {
+        if additional <= self.capacity - self.inner.len() {
+            return Ok(());
+        }
+        match self.inner.reserve(additional) {
+            Ok(()) => {
+                self.capacity = self.inner.capacity();
+                Ok(())
+            }
+            Err(_) => Err(wanting(self.inner.len(), additional)),
+        }
+    }
+
+    /// Puts `value` at the end. It is refused only where the length is the capacity: then `value` is dropped and
+    /// the vector is as before. Below the capacity it is never refused and the capacity stays.
+    ///
+    /// A port of `TryVec::push`.
+    pub fn push(&mut self, value: T) -> Result<(), OutOfMemory>
+    where
+        T: Drop,
+        ensures last { OnOk result (self.new.items ≡ self.old.items ++ value ∷ []) }
+        ensures never_refused_below { length self.old.items < self.old.capacity → IsOk result }
+        ensures refused_only_full { OnErr result (length self.old.items ≡ self.old.capacity) }
+        ensures capacity_kept_below { length self.old.items < self.old.capacity → self.new.capacity ≡ self.old.capacity }
+        ensures capacity_never_falls { self.old.capacity ≤ self.new.capacity }
+        ensures refusal_leaves { OnErr result (self.new ≡ self.old) }
+    {
+        if self.inner.len() == self.capacity {
+            self.reserve(1)?;
+        }
+        self.inner.push_reserved(value);
+        Ok(())
+    }
+
+    /// Takes the last element out, or answers `None` where there is none. The capacity stays.
+    ///
+    /// A port of `TryVec::pop`.
+    pub fn pop(&mut self) -> Option<T>
+        ensures found { IsSome result ↔ (0 < length self.old.items) }
+        ensures last { IfSome result (λ value. self.old.items ≡ self.new.items ++ value ∷ []) }
+        ensures none_leaves { IfNone result (self.new ≡ self.old) }
+        ensures capacity_stays { self.new.capacity ≡ self.old.capacity }
+    {
+        self.inner.pop()
+    }
+
+    /// The number of elements. A port of `TryVec::len`.
+    pub fn len(&self) -> usize
+        ensures length { result ≡ length self.now.items }
+        ensures within { result ≤ self.now.capacity }
+    {
+        self.inner.len()
+    }
+
+    /// How many elements fit with no request for memory, those that are there among them.
+    ///
+    /// A port of `TryVec::capacity`, which may be less than the room that the vector inside has.
+    pub fn capacity(&self) -> usize
+        ensures capacity { result ≡ self.now.capacity }
+        ensures holds_all { length self.now.items ≤ result }
+    {
+        self.capacity
+    }
+
+    /// Whether there is no element. A port of `TryVec::is_empty`.
+    pub fn is_empty(&self) -> bool
+        ensures empty { result ≡ (length self.now.items == 0) }
+    {
+        self.inner.is_empty()
+    }
+
+    /// The elements in place. A port of `TryVec::as_slice`.
+    pub fn as_slice(&self) -> &[T]
+        ensures items { result.now ≡ self.now.items }
+    {
+        self.inner.as_slice()
+    }
+}
+
+// The refusal of `additional` more elements beside `length` of them.
+fn wanting(length: usize, additional: usize) -> OutOfMemory {
+    OutOfMemory::new(length.saturating_add(additional))
+}
