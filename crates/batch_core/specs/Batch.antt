@@ -1,0 +1,59 @@
+-- What a batch comes to: it takes effect whole, or not at all.
+use Rattle.std.specs.Prelude.{ℕ, ◌+◌, List, [], ◌∷◌, Option, Some, None}
+use Rattle.std.specs.Option.{option_map}
+use Rattle.batch_core.specs.State.{Contents}
+use Rattle.batch_core.specs.Command.{Cause, CommandReply, cause_of, effect_of, reply_of}
+use Rattle.batch_core.specs.declared.command.Command.{Command}
+use Rattle.batch_core.specs.declared.command.End.{End}
+use Rattle.batch_core.specs.declared.command.End.TheVariants.{Commit, Abort}
+
+-- a bad command: why it isn't admitted, and its number in the batch, from 1
+pub record BadCommand : Type 0 where
+  pub cause : Cause
+  pub at : ℕ
+
+-- what a batch comes to
+pub data Outcome (T : Type 0) : Type 0 where
+  committed : List (CommandReply T) → Outcome T
+  aborted : Outcome T
+  refused : BadCommand → Outcome T
+
+-- the same command, counted from one place earlier
+abbrev pub one_later : BadCommand → BadCommand
+one_later bad = record bad { at = bad.at + 1 }
+
+-- the first command of two parts of a batch that is bad: the command in front, or else one behind it
+abbrev pub front_or_later : Option Cause → Option BadCommand → Option BadCommand
+front_or_later (Some cause) later = Some (record { cause = cause; at = 1 })
+front_or_later None later = option_map one_later later
+
+module _ {T : Type 0} where
+  -- the first bad command, if there is one: those before it are admitted where they stand, and it isn't
+  abbrev pub first_bad : Contents T → List (Command T) → Option BadCommand
+  first_bad contents [] = None
+  first_bad contents (command ∷ commands) =
+      front_or_later (cause_of contents command) (first_bad (effect_of contents command) commands)
+
+  -- the contents after all commands, each of which is admitted
+  abbrev pub contents_after : Contents T → List (Command T) → Contents T
+  contents_after contents [] = contents
+  contents_after contents (command ∷ commands) = contents_after (effect_of contents command) commands
+
+  -- the replies of all commands in order, each of which is admitted
+  abbrev pub replies_of : Contents T → List (Command T) → List (CommandReply T)
+  replies_of contents [] = []
+  replies_of contents (command ∷ commands) = reply_of contents command ∷ replies_of (effect_of contents command) commands
+
+  -- the outcome and the contents after a batch with no bad command
+  abbrev pub ended : Contents T → List (Command T) → End → Outcome T × Contents T
+  ended contents commands Commit = (committed (replies_of contents commands), contents_after contents commands)
+  ended contents commands Abort = (aborted, contents)
+
+  -- a bad command refuses the whole batch, whatever its end, and the old contents stay
+  abbrev pub unless_bad : Option BadCommand → Contents T → Outcome T × Contents T → Outcome T × Contents T
+  unless_bad (Some bad) contents otherwise = (refused bad, contents)
+  unless_bad None contents otherwise = otherwise
+
+  -- the outcome of a batch, and the contents after it
+  abbrev pub outcome_of : Contents T → List (Command T) → End → Outcome T × Contents T
+  outcome_of contents commands ending = unless_bad (first_bad contents commands) contents (ended contents commands ending)

@@ -1,0 +1,68 @@
+-- Which inputs are scripts: the lines of an input against the lines that items are printed as.
+use Rattle.std.specs.Prelude.{⊤, ◌≡◌, ◌⊎◌, ℕ, ◌+◌, ◌^◌, ◌<◌, ◌≤◌, ◌==◌, if◌then◌else◌, List, [], ◌∷◌, ◌++◌, length, take, map, codes}
+use Rattle.std.specs.List.{AllByRecursion, flat_map}
+use Rattle.std.specs.Fmt.{decimal}
+use Rattle.batch_core.specs.declared.command.Command.{Command}
+use Rattle.batch_core.specs.declared.command.Command.TheVariants.{Push}
+use Rattle.batch_core.specs.declared.command.End.{End}
+use Rattle.batch_core.specs.declared.command.End.TheVariants.{Commit, Abort}
+use Rattle.batch_script.specs.Machine.{Item, batch}
+
+-- a line is its bytes, without the line feed at its end
+abbrev pub Line : Type 0
+Line = List ℕ
+
+-- the same lines with one byte more in front of the first
+abbrev pub with_byte : ℕ → List Line → List Line
+with_byte byte [] = (byte ∷ []) ∷ []
+with_byte byte (line ∷ lines) = (byte ∷ line) ∷ lines
+
+-- the lines of an input: its pieces between line feeds, but for an empty last piece
+abbrev pub lines_of : List ℕ → List Line
+lines_of [] = []
+lines_of (byte ∷ bytes) = if byte == 10 then [] ∷ lines_of bytes else with_byte byte (lines_of bytes)
+
+-- a command has only numbers that a script can write
+abbrev pub IsValidCommand : Command ℕ → Type 0
+IsValidCommand (Push value) = value < 2 ^ 64
+
+-- an item has only numbers that a script can write
+abbrev pub IsValidItem : Item → Type 0
+IsValidItem (batch commands ending) = AllByRecursion IsValidCommand commands
+
+-- the line of a command
+abbrev pub command_line : Command ℕ → Line
+command_line (Push value) = codes "push " ++ decimal value
+
+-- the line that ends a batch
+abbrev pub end_line : End → Line
+end_line Commit = codes "commit"
+end_line Abort = codes "abort"
+
+-- the lines that an item is printed as
+abbrev pub printed_lines : Item → List Line
+printed_lines (batch commands ending) = codes "begin" ∷ map command_line commands ++ end_line ending ∷ []
+
+-- the lines that items are printed as, one item after the other
+abbrev pub all_lines : List Item → List Line
+all_lines = flat_map printed_lines
+
+-- the input is the script of these items
+pub record IsScriptOf (input : List ℕ) (items : List Item) : Type 0 where
+  pub valid : AllByRecursion IsValidItem items
+  pub lines : lines_of input ≡ all_lines items
+
+-- the input is a script
+abbrev pub IsScript : List ℕ → Type 0
+IsScript input = (items : List Item) × IsScriptOf input items
+
+-- these lines begin the lines of a script
+abbrev pub IsOpen : List Line → Type 0
+IsOpen lines = (items : List Item) × (rest : List Line) × AllByRecursion IsValidItem items × (lines ++ rest ≡ all_lines items)
+
+-- The line of the fault of an input that is no script, counted from 1: with the lines before it a script may begin,
+-- and with it none. It is one past the last line where all lines together begin a script.
+pub record IsFaultLine (input : List ℕ) (line : ℕ) : Type 0 where
+  pub counted : 1 ≤ line
+  pub before : (count : ℕ) → count < line → IsOpen (take count (lines_of input))
+  pub least : ((line ≤ length (lines_of input)) × (¬ IsOpen (take line (lines_of input)))) ⊎ (line ≡ length (lines_of input) + 1)
