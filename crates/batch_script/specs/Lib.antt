@@ -1,4 +1,6 @@
 -- What a script is, what a run of it is, and the text of its replies.
+pub mod Device
 pub mod Grammar
 pub mod Machine
+pub mod MemoryDevice
 pub mod Reply

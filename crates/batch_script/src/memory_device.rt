@@ -1,0 +1,292 @@
+//! Sources and sinks in memory, which fail at the calls that they are told.
+ghost use Rattle.std.specs.Prelude.{◌≡◌, ◌+◌, ◌-◌, ◌<◌, ◌≤◌, ◌↔◌, ◌⊎◌, ◌++◌, ℕ, List, [], length, take, drop, min, Some, Contains, IsTrue, IsOk, IsErr, IfOk, OnOk, OnErr};
+ghost use Rattle.wic_vec.specs.TryVec.{HasRoomFor};
+ghost use Rattle.batch_script.specs.Device.{HasCause, TakesFirst};
+ghost use Rattle.batch_script.specs.MemoryDevice.{next_call};
+
+use crate::device::{Failed, Sink, Source};
+use std::alloc::Global;
+use std::marker::Model;
+use wic_base::OutOfMemory;
+use wic_vec::TryVec;
+
+/// Which calls of a device fail, how many there were, and how many failed.
+#[derive(Drop)]
+struct FaultPlan {
+    failing: TryVec<u64>,
+    calls: u64,
+    faults: u64,
+}
+
+impl FaultPlan {
+    fn new(failing: TryVec<u64>) -> FaultPlan
+        ensures failing { result.failing.items ≡ failing.items }
+        ensures calls { result.calls ≡ 0 }
+        ensures faults { result.faults ≡ 0 }
+    {
+        FaultPlan {
+            failing,
+            calls: 0,
+            faults: 0,
+        }
+    }
+
+    // Counts a call, and answers whether it is one that is to fail.
+    fn next_call_fails(&mut self) -> bool
+        ensures listed { IsTrue result ↔ Contains self.old.failing.items (next_call self.old.calls) }
+        ensures counted { self.new ≡ record self.old { calls = next_call self.old.calls } }
+    {
+        self.calls = self.calls.saturating_add(1);
+        self.failing.as_slice().contains(&self.calls)
+    }
+
+    // Counts a fault, and answers it.
+    fn fail(&mut self) -> Failed
+        ensures counted { self.new ≡ record self.old { faults = next_call self.old.faults } }
+        ensures never_falls { self.old.faults ≤ self.new.faults }
+    {
+        self.faults = self.faults.saturating_add(1);
+        Failed
+    }
+}
+
+/// Input that lies in memory and is read without a fault. Own.
+///
+/// A contract sees the bytes that are left.
+#[derive(Drop)]
+pub struct PlainSource {
+    bytes: TryVec<u8>,
+    taken: usize,
+}
+
+impl Model for PlainSource {
+    ghost use Rattle.std.specs.Prelude.{ℕ, List, drop, length, ◌≤◌};
+
+    ghost Value = { List ℕ };
+
+    ghost view = { λ s. drop s.taken s.bytes.items };
+
+    ghost invariant = { λ s. s.taken ≤ length s.bytes.items };
+}
+
+impl PlainSource {
+    /// A source that gives these bytes, takes no memory and never fails.
+    pub fn new(bytes: TryVec<u8>) -> PlainSource
+        ensures left { result ≡ bytes.items }
+    {
+        PlainSource { bytes, taken: 0 }
+    }
+
+    // Takes the first bytes that are left into the front of `buf`: as many as there are, as fit and as `most` says.
+    fn take(&mut self, buf: &mut [u8], most: usize) -> usize
+        ensures count { result ≡ min (min most (length buf.old)) (length self.old) }
+        ensures read { take result buf.new ≡ take result self.old }
+        ensures rest { self.new ≡ drop result self.old }
+    {
+        let rest = &self.bytes.as_slice()[self.taken..];
+        let count = most.min(buf.len()).min(rest.len());
+        buf[..count].copy_from_slice(&rest[..count]);
+        self.taken += count;
+        count
+    }
+}
+
+impl Source for PlainSource {
+    ghost left = { λ s. Some s };
+
+    ghost faults = { λ _. 0 };
+
+    fn read(&mut self, buf: &mut [u8]) -> Result<usize, Failed>
+        ensures never_fails { IsOk result }
+        ensures within { IfOk result (λ count. count ≤ length buf.old) }
+        ensures bytes { IfOk result
+            (λ count. (bytes : List ℕ) → Some self.old ≡ Some bytes → TakesFirst bytes (Some self.new) buf.new count) }
+        ensures failed_takes_nothing { OnErr result (Some self.new ≡ Some self.old) }
+        ensures cause { HasCause 0 0 result }
+    {
+        let most = buf.len();
+        Ok(self.take(buf, most))
+    }
+}
+
+/// Input that lies in memory, is given in pieces, and fails at the calls that it is told. Own.
+#[derive(Drop)]
+pub struct MemSource {
+    source: PlainSource,
+    piece: usize,
+    plan: FaultPlan,
+}
+
+impl Model for MemSource {
+    ghost use Rattle.std.specs.Prelude.{◌≤◌};
+    ghost use Rattle.batch_script.specs.MemoryDevice.{MemSource as Feed};
+
+    ghost Value = { Feed };
+
+    ghost view = { λ s. record {
+      left = s.source;
+      piece = s.piece;
+      failing = s.plan.failing.items;
+      calls = s.plan.calls;
+      faults = s.plan.faults;
+    } };
+
+    ghost invariant = { λ s. 1 ≤ s.piece };
+}
+
+impl MemSource {
+    /// A source that gives these bytes, at most `piece` in a call. Calls are numbered from 1, and one fails exactly
+    /// where `failing` has its number; the number stands still at 18446744073709551615. It takes no memory.
+    pub fn new(bytes: TryVec<u8>, piece: usize, failing: TryVec<u64>) -> MemSource
+        requires { 1 ≤ piece }
+        ensures left { result.left ≡ bytes.items }
+        ensures piece { result.piece ≡ piece }
+        ensures failing { result.failing ≡ failing.items }
+        ensures calls { result.calls ≡ 0 }
+        ensures faults { result.faults ≡ 0 }
+    {
+        MemSource {
+            source: PlainSource::new(bytes),
+            piece,
+            plan: FaultPlan::new(failing),
+        }
+    }
+}
+
+impl Source for MemSource {
+    ghost left = { λ s. Some s.left };
+
+    ghost faults = { λ s. s.faults };
+
+    fn read(&mut self, buf: &mut [u8]) -> Result<usize, Failed>
+        ensures listed { IsErr result ↔ Contains self.old.failing (next_call self.old.calls) }
+        ensures count { IfOk result (λ count. count ≡ min (min self.old.piece (length buf.old)) (length self.old.left)) }
+        ensures counted { self.new.calls ≡ next_call self.old.calls }
+        ensures fault_counted { OnErr result (self.new.faults ≡ next_call self.old.faults) }
+        ensures kept { (self.new.piece ≡ self.old.piece) × (self.new.failing ≡ self.old.failing) }
+        ensures within { IfOk result (λ count. count ≤ length buf.old) }
+        ensures bytes { IfOk result
+            (λ count. (bytes : List ℕ) → Some self.old.left ≡ Some bytes → TakesFirst bytes (Some self.new.left) buf.new count) }
+        ensures failed_takes_nothing { OnErr result (Some self.new.left ≡ Some self.old.left) }
+        ensures cause { HasCause self.old.faults self.new.faults result }
+    {
+        if self.plan.next_call_fails() {
+            return Err(self.plan.fail());
+        }
+        Ok(self.source.take(buf, self.piece))
+    }
+}
+
+/// Output that is kept in memory, is taken in pieces, and fails at the calls that it is told and where its room is
+/// used up. Own.
+#[derive(Drop)]
+pub struct MemSink {
+    bytes: TryVec<u8>,
+    room: usize,
+    piece: usize,
+    plan: FaultPlan,
+}
+
+impl Model for MemSink {
+    ghost use Rattle.std.specs.Prelude.{◌≤◌, length};
+    ghost use Rattle.batch_script.specs.MemoryDevice.{MemSink as Store};
+
+    ghost Value = { Store };
+
+    ghost view = { λ s. record {
+      bytes = s.bytes.items;
+      room = s.room;
+      piece = s.piece;
+      failing = s.plan.failing.items;
+      calls = s.plan.calls;
+      faults = s.plan.faults;
+    } };
+
+    ghost invariant = { λ s. (1 ≤ s.piece) × (length s.bytes.items ≤ s.room) × (s.room ≤ s.bytes.capacity) };
+}
+
+impl MemSink {
+    /// A sink that holds up to `room` bytes and takes at most `piece` in a call. Calls are numbered from 1, and one
+    /// fails where `failing` has its number; the number stands still at 18446744073709551615. All its memory is
+    /// taken here.
+    pub fn new(
+        alloc: Global,
+        room: usize,
+        piece: usize,
+        failing: TryVec<u64>,
+    ) -> Result<MemSink, OutOfMemory>
+        requires { 1 ≤ piece }
+        ensures empty { IfOk result (λ s. s.bytes ≡ []) }
+        ensures room { IfOk result (λ s. s.room ≡ room) }
+        ensures piece { IfOk result (λ s. s.piece ≡ piece) }
+        ensures failing { IfOk result (λ s. s.failing ≡ failing.items) }
+        ensures calls { IfOk result (λ s. s.calls ≡ 0) }
+        ensures faults { IfOk result (λ s. s.faults ≡ 0) }
+    {
+        Ok(MemSink {
+            bytes: TryVec::with_capacity(alloc, room)?,
+            room,
+            piece,
+            plan: FaultPlan::new(failing),
+        })
+    }
+
+    /// The bytes that were written, in place.
+    pub fn bytes(&self) -> &[u8]
+        ensures bytes { result.now ≡ self.now.bytes }
+    {
+        self.bytes.as_slice()
+    }
+
+    /// How many bytes it holds at most.
+    pub fn room(&self) -> usize
+        ensures room { result ≡ self.now.room }
+        ensures holds_all { length self.now.bytes ≤ result }
+    {
+        self.room
+    }
+}
+
+impl Sink for MemSink {
+    ghost written = { λ s. Some s.bytes };
+
+    ghost faults = { λ s. s.faults };
+
+    fn write(&mut self, piece: &[u8]) -> Result<usize, Failed>
+        ensures fails { IsErr result
+            ↔ (Contains self.old.failing (next_call self.old.calls) ⊎ ((0 < length piece.now) × (length self.old.bytes ≡ self.old.room))) }
+        ensures count { IfOk result
+            (λ count. count ≡ min (min self.old.piece (length piece.now)) (self.old.room - length self.old.bytes)) }
+        ensures counted { self.new.calls ≡ next_call self.old.calls }
+        ensures fault_counted { OnErr result (self.new.faults ≡ next_call self.old.faults) }
+        ensures kept { (self.new.room ≡ self.old.room) × (self.new.piece ≡ self.old.piece) × (self.new.failing ≡ self.old.failing) }
+        ensures within { IfOk result (λ count. count ≤ length piece.now) }
+        ensures progress { IfOk result (λ count. 0 < length piece.now → 0 < count) }
+        ensures bytes { IfOk result
+            (λ count. (held : List ℕ) → Some self.old.bytes ≡ Some held → Some self.new.bytes ≡ Some (held ++ take count piece.now)) }
+        ensures failed_takes_nothing { OnErr result (Some self.new.bytes ≡ Some self.old.bytes) }
+        ensures cause { HasCause self.old.faults self.new.faults result }
+    {
+        if self.plan.next_call_fails() {
+            return Err(self.plan.fail());
+        }
+        let room_left = self.room - self.bytes.len();
+        if room_left == 0 && !piece.is_empty() {
+            return Err(self.plan.fail());
+        }
+        let count = self.piece.min(piece.len()).min(room_left);
+        append(&mut self.bytes, &piece[..count]);
+        Ok(count)
+    }
+}
+
+/// Puts bytes at the end, for which there is room.
+pub(crate) fn append(bytes: &mut TryVec<u8>, piece: &[u8])
+    requires { HasRoomFor bytes.old (length piece.now) }
+    ensures items { bytes.new.items ≡ bytes.old.items ++ piece.now }
+    ensures capacity { bytes.new.capacity ≡ bytes.old.capacity }
+{
+    for byte in piece {
+        bytes.push(*byte).unwrap();
+    }
+}
