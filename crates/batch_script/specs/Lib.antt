@@ -3,4 +3,6 @@ pub mod Device
 pub mod Grammar
 pub mod Machine
 pub mod MemoryDevice
+pub mod Reading
+pub mod Refusal
 pub mod Reply

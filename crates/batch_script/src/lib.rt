@@ -4,6 +4,9 @@
 mod device;
 mod item;
 mod memory_device;
+mod parse;
+mod run;
 
 pub use device::{Failed, Sink, Source};
 pub use memory_device::{MemSink, MemSource, PlainSource};
+pub use run::RunError;

@@ -1,0 +1,134 @@
+-- What a line does to what was read, and where reading stops.
+use Rattle.std.proofs.Common.{◌≡◌, ◌≢◌, ◌⊎◌, ℕ, ◌+◌, ◌<◌, ◌≤◌, List, [], ◌∷◌, ◌++◌, length, take, drop, map, refl, sym, ap, ◌∙◌, subst, inl, inr, arith, append_assoc, length-drop, take-take, Option, Some, None}
+use Rattle.std.specs.Prelude.{codes}
+use Rattle.std.specs.List.{AllByRecursion, flat_map}
+use Rattle.std.proofs.lemmas.List.{take-append-drop, append-nil, drop-drop}
+use Rattle.std.proofs.Math.Seq.{take-add}
+use Rattle.batch_core.specs.declared.command.Command.{Command}
+use Rattle.batch_core.specs.declared.command.End.{End}
+use Rattle.batch_core.specs.declared.command.End.TheVariants.{Commit}
+use Rattle.batch_script.specs.Machine.{Item, batch}
+use Rattle.batch_script.specs.Grammar.{Line, IsValidItem, IsValidCommand, command_line, end_line, printed_lines, all_lines, lines_of, IsOpen, IsScript, IsScriptOf, IsFaultLine}
+use Rattle.batch_script.specs.Reading.{AreRead, open_lines, IsValidOpen}
+use Rattle.batch_script.proofs.Prefixes.{rest-after_items, first_line, next_line_in_batch, begun_is_no_script, GoesOn}
+
+all_lines-append : (xs ys : List Item) → all_lines (xs ++ ys) ≡ all_lines xs ++ all_lines ys
+all_lines-append [] ys = refl
+all_lines-append (x ∷ xs) ys = ap (λ later. printed_lines x ++ later) (all_lines-append xs ys) ∙ sym (append_assoc (printed_lines x) (all_lines xs) (all_lines ys))
+
+AllByRecursion-append : {X : Type 0} (P : X → Type 0) (xs ys : List X) → AllByRecursion P xs → AllByRecursion P ys → AllByRecursion P (xs ++ ys)
+AllByRecursion-append P [] ys h k = k
+AllByRecursion-append P (x ∷ xs) ys h k = (h.0, AllByRecursion-append P xs ys h.1 k)
+
+map-append : {X Y : Type 0} (f : X → Y) (xs ys : List X) → map f (xs ++ ys) ≡ map f xs ++ map f ys
+map-append f [] ys = refl
+map-append f (x ∷ xs) ys = ap (λ later. f x ∷ later) (map-append f xs ys)
+
+-- a batch begins
+pub read-begin : (items : List Item) (lines : List Line) (line : Line) → AreRead items None lines → line ≡ codes "begin" → AreRead items (Some []) (lines ++ line ∷ [])
+read-begin items lines line was e = record {
+  valid_items = was.valid_items;
+  valid_open = tt;
+  same = rw (was.same, e) (append_assoc (all_lines items) [] (codes "begin" ∷ []));
+}
+
+-- a command follows
+pub read-command : (items : List Item) (commands : List (Command ℕ)) (lines : List Line) (line : Line) (command : Command ℕ) → AreRead items (Some commands) lines → IsValidCommand command → line ≡ command_line command → AreRead items (Some (commands ++ command ∷ [])) (lines ++ line ∷ [])
+read-command items commands lines line command was valid e = record {
+  valid_items = was.valid_items;
+  valid_open = AllByRecursion-append IsValidCommand commands (command ∷ []) was.valid_open (valid, tt);
+  same = rw (was.same, e, map-append command_line commands (command ∷ [])) (append_assoc (all_lines items) (open_lines (Some commands)) (command_line command ∷ []));
+}
+
+-- a batch ends
+pub read-end : (items : List Item) (commands : List (Command ℕ)) (lines : List Line) (line : Line) (ending : End) → AreRead items (Some commands) lines → line ≡ end_line ending → AreRead (items ++ batch commands ending ∷ []) None (lines ++ line ∷ [])
+read-end items commands lines line ending was e = record {
+  valid_items = AllByRecursion-append IsValidItem items (batch commands ending ∷ []) was.valid_items (was.valid_open, tt);
+  valid_open = tt;
+  same = rw (was.same, e, all_lines-append items (batch commands ending ∷ [])) (simp (append_assoc, append-nil));
+}
+
+-- what was read begins a script
+pub IsOpen-read : (items : List Item) (begun : Option (List (Command ℕ))) (lines : List Line) → AreRead items begun lines → IsOpen lines
+IsOpen-read items None lines was = (items, [], was.valid_items, rw was.same (simp append-nil))
+IsOpen-read items (Some commands) lines was =
+    (items ++ batch commands Commit ∷ [], end_line Commit ∷ [], AllByRecursion-append IsValidItem items (batch commands Commit ∷ []) was.valid_items (was.valid_open, tt), rw (was.same, all_lines-append items (batch commands Commit ∷ [])) (simp (append_assoc, append-nil)))
+
+-- outside a batch only its beginning goes on
+pub stuck_outside : (items : List Item) (lines : List Line) (line : Line) → AreRead items None lines → line ≢ codes "begin" → IsOpen (lines ++ line ∷ []) → ⊥
+stuck_outside items lines line was ne opened =
+    let apart : all_lines items ++ line ∷ opened.1 ≡ all_lines opened.0 = simp (was.same, append_assoc, append-nil) at opened.3 in
+    let more = rest-after_items items opened.0 (line ∷ opened.1) apart opened.2 in
+    ne (first_line line opened.1 more.0 more.1)
+
+-- in a batch only a command or its end goes on
+pub stuck_in_batch : (items : List Item) (commands : List (Command ℕ)) (lines : List Line) (line : Line) → AreRead items (Some commands) lines → ¬ GoesOn line → IsOpen (lines ++ line ∷ []) → ⊥
+stuck_in_batch items commands lines line was ne opened =
+    let apart : all_lines items ++ ((codes "begin" ∷ map command_line commands) ++ line ∷ opened.1) ≡ all_lines opened.0 = simp (was.same, append_assoc) at opened.3 in
+    let more = rest-after_items items opened.0 ((codes "begin" ∷ map command_line commands) ++ line ∷ opened.1) apart opened.2 in
+    ne (next_line_in_batch commands line opened.1 more.0 more.1 more.2)
+
+-- a batch that has begun and not ended is no script
+pub begun-IsScript : (items : List Item) (commands : List (Command ℕ)) (input : List ℕ) → AreRead items (Some commands) (lines_of input) → IsScript input → ⊥
+begun-IsScript items commands input was script =
+    let apart : all_lines items ++ (codes "begin" ∷ map command_line commands) ≡ all_lines script.0 = cc in
+    let more = rest-after_items items script.0 (codes "begin" ∷ map command_line commands) apart script.1.valid in
+    begun_is_no_script commands more.0 more.1
+
+-- with all lines read and no batch begun the input is the script of the items
+pub IsScriptOf-read : (items : List Item) (input : List ℕ) → AreRead items None (lines_of input) → IsScriptOf input items
+IsScriptOf-read items input was = record { valid = was.valid_items; lines = was.same ∙ append-nil (all_lines items) }
+
+-- a front of lines that begin a script begins one too
+pub IsOpen-front : (front rest : List Line) → IsOpen (front ++ rest) → IsOpen front
+IsOpen-front front rest opened = (opened.0, rest ++ opened.1, opened.2, sym (append_assoc front rest opened.1) ∙ opened.3)
+
+-- each front of the lines of a script begins a script
+pub IsOpen-script : (input : List ℕ) (count : ℕ) → IsScript input → IsOpen (take count (lines_of input))
+IsOpen-script input count script =
+    (script.0, drop count (lines_of input), script.1.valid, take-append-drop count (lines_of input) ∙ script.1.lines)
+
+IsOpen-take : (lines : List Line) (count : ℕ) → IsOpen lines → IsOpen (take count lines)
+IsOpen-take lines count opened =
+    IsOpen-front (take count lines) (drop count lines) (subst IsOpen (sym (take-append-drop count lines)) opened)
+
+fewer_open : (lines : List Line) (count fewer : ℕ) → fewer ≤ count → IsOpen (take count lines) → IsOpen (take fewer lines)
+fewer_open lines count fewer below opened =
+    subst IsOpen (take-take fewer count lines below) (IsOpen-take (take count lines) fewer opened)
+
+pub take_next : (lines : List Line) (count : ℕ) (line : Line) (later : List Line) → drop count lines ≡ line ∷ later → take (count + 1) lines ≡ take count lines ++ line ∷ []
+take_next lines count line later next = take-add count 1 lines ∙ ap (λ rest. take count lines ++ take 1 rest) next
+
+pub drop_next : (lines : List Line) (count : ℕ) (line : Line) (later : List Line) → drop count lines ≡ line ∷ later → drop (count + 1) lines ≡ later
+drop_next lines count line later next = sym (drop-drop 1 count lines) ∙ ap (drop 1) next
+
+-- the fault is at the first line with which no script begins
+pub IsFaultLine-at : (input : List ℕ) (count : ℕ) (line : Line) (later : List Line) → IsOpen (take count (lines_of input)) → drop count (lines_of input) ≡ line ∷ later → ¬ IsOpen (take count (lines_of input) ++ line ∷ []) → (¬ IsScript input) × IsFaultLine input (count + 1)
+IsFaultLine-at input count line later opened next stuck =
+    let lines = lines_of input in
+    let short : count < length lines = omega (arith, length-drop count lines, ap length next) in
+    let front : take (count + 1) lines ≡ take count lines ++ line ∷ [] = take_next lines count line later next in
+    let closed : ¬ IsOpen (take (count + 1) lines) = λ whole. stuck (subst IsOpen front whole) in (
+      (λ script. closed (IsOpen-script input (count + 1) script)),
+      record {
+        counted = omega arith;
+        before = λ fewer below. fewer_open lines count fewer (omega arith) opened;
+        least = inl (omega arith, closed);
+      },
+    )
+
+-- with no line left the first lines are all lines
+pub take_to_end : (lines : List Line) (count : ℕ) → drop count lines ≡ [] → take count lines ≡ lines
+take_to_end lines count next =
+    let whole = take-append-drop count lines in
+    sym (append-nil (take count lines)) ∙ (rw next at whole)
+
+-- where all lines begin a script and the input is none, the fault is behind the last line
+pub IsFaultLine-end : (input : List ℕ) (count : ℕ) → IsOpen (take count (lines_of input)) → drop count (lines_of input) ≡ [] → count ≤ length (lines_of input) → IsFaultLine input (count + 1)
+IsFaultLine-end input count opened next within =
+    let all : length (lines_of input) ≡ count = omega (arith, length-drop count (lines_of input), ap length next) in
+    record {
+      counted = omega arith;
+      before = λ fewer below. fewer_open (lines_of input) count fewer (omega arith) opened;
+      least = inr (omega arith);
+    }
