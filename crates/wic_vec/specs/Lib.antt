@@ -1,3 +1,4 @@
 -- What contracts see of a vector and of a text.
 pub mod TryString
 pub mod TryVec
+pub mod VecLends

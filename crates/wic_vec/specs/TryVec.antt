@@ -1,5 +1,6 @@
 -- What a contract sees of a `TryVec`.
-use Rattle.std.specs.Prelude.{◌≡◌, ℕ, ◌+◌, ◌≤◌, ◌<◌, List, length, refl}
+use Rattle.std.specs.Prelude.{ℕ, ◌+◌, ◌≤◌, List, length, slice_set, refl}
+use Rattle.std.specs.List.{refill}
 use Rattle.std.specs.Coded.{Coded, code_by, coded×, coded_ℕ, coded_list}
 
 -- the elements in order, and how many fit with no request for memory
@@ -17,3 +18,11 @@ module _ {T : Type 0} where
   -- so many more elements fit with no request for memory
   abbrev pub HasRoomFor : TryVec T → ℕ → Type 0
   HasRoomFor v more = length v.items + more ≤ v.capacity
+
+  -- v with x at place i
+  abbrev pub with_item : TryVec T → ℕ → T → TryVec T
+  with_item v i x = record v { items = slice_set v.items i x }
+
+  -- v with xs written over its elements from the front on: their number stays
+  abbrev pub with_items : TryVec T → List T → TryVec T
+  with_items v xs = record v { items = refill (length v.items) v.items xs }

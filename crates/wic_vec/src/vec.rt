@@ -1,9 +1,12 @@
 //! A vector whose growth can be refused.
-ghost use Rattle.std.specs.Prelude.{◌≡◌, ◌+◌, ◌<◌, ◌≤◌, ◌↔◌, ◌==◌, [], ◌∷◌, ◌++◌, length, IsOk, IsSome, IfOk, IfSome, IfNone, OnOk, OnErr};
+ghost use Rattle.std.specs.Prelude.{◌≡◌, ◌+◌, ◌<◌, ◌≤◌, ◌↔◌, ◌==◌, [], ◌∷◌, ◌++◌, length, take, slice_get, Some, IsOk, IsSome, IfOk, IfSome, IfNone, OnOk, OnErr};
+ghost use Rattle.std.specs.Option.{option_copied};
+ghost use Rattle.std.specs.Borrow.{sem};
 ghost use Rattle.wic_vec.specs.TryVec.{HasRoomFor};
 
 use std::alloc::Global;
 use std::marker::Model;
+use std::ops::{Index, IndexMut};
 use wic_base::OutOfMemory;
 
 /// A vector whose growth can be refused: each call that may want memory answers `OutOfMemory`.
@@ -31,6 +34,8 @@ impl<T> Model for TryVec<T> {
 }
 
 impl<T> TryVec<T> {
+    ghost use Rattle.wic_vec.specs.VecLends.{lends_slice, lends_get};
+
     /// The empty vector, of capacity 0. It takes no memory.
     ///
     /// A port of `TryVec::new`.
@@ -75,6 +80,30 @@ impl<T> TryVec<T> {
             return Ok(());
         }
         match self.inner.reserve(additional) {
+            Ok(()) => {
+                self.capacity = self.inner.capacity();
+                Ok(())
+            }
+            Err(_) => Err(wanting(self.inner.len(), additional)),
+        }
+    }
+
+    /// Makes room as `reserve` does, and asks the allocator for no more than that.
+    ///
+    /// A port of `TryVec::reserve_exact`.
+    pub fn reserve_exact(&mut self, additional: usize) -> Result<(), OutOfMemory>
+        ensures same_items { self.new.items ≡ self.old.items }
+        ensures room { OnOk result (HasRoomFor self.new additional) }
+        ensures never_refused_within { HasRoomFor self.old additional → IsOk result }
+        ensures refused_only_beyond { OnErr result (self.old.capacity < length self.old.items + additional) }
+        ensures unchanged_within { HasRoomFor self.old additional → self.new ≡ self.old }
+        ensures capacity_never_falls { self.old.capacity ≤ self.new.capacity }
+        ensures refusal_leaves { OnErr result (self.new ≡ self.old) }
+    {
+        if additional <= self.capacity - self.inner.len() {
+            return Ok(());
+        }
+        match self.inner.reserve_exact(additional) {
             Ok(()) => {
                 self.capacity = self.inner.capacity();
                 Ok(())
@@ -146,6 +175,89 @@ impl<T> TryVec<T> {
         ensures items { result.now ≡ self.now.items }
     {
         self.inner.as_slice()
+    }
+
+    /// The elements in place, to be read and written. What is written there is what the vector then has; its
+    /// length and its capacity stay.
+    ///
+    /// A port of `TryVec`'s `DerefMut`, under the name that `Vec` has for it.
+    pub fn as_mut_slice(&mut self) -> &mut [T]
+        ensures* writes_back { sem 𝓛 (lends_slice T.row self.entry result) }
+        ensures items { result.now ≡ self.old.items }
+    {
+        self.inner.as_mut_slice()
+    }
+
+    /// The element at place `i`, or `None` exactly where `i` isn't below the length.
+    ///
+    /// A port of the slices' `get`, which `TryVec` has by its `Deref`.
+    pub fn get(&self, i: usize) -> Option<&T>
+        ensures found { IsSome result ↔ (i < length self.now.items) }
+        ensures item { option_copied result ≡ slice_get self.now.items i }
+    {
+        self.inner.as_slice().get(i)
+    }
+
+    /// The element at place `i`, to be read and written, or `None` exactly where `i` isn't below the length. What
+    /// is written is what place `i` then has. The other elements and the capacity stay, and at `None` all does.
+    ///
+    /// A port of the slices' `get_mut`, which `TryVec` has by its `DerefMut`.
+    pub fn get_mut(&mut self, i: usize) -> Option<&mut T>
+        ensures* writes_back { sem 𝓛 (lends_get T.row self.entry i result) }
+        ensures found { IsSome result ↔ (i < length self.old.items) }
+        ensures item { IfSome result (λ x. slice_get self.old.items i ≡ Some x.now) }
+    {
+        self.inner.get_mut(i)
+    }
+}
+
+impl<T: Drop> TryVec<T> {
+    /// Keeps the first `len` elements, or all of them where there are no more than that, and drops the others. The
+    /// capacity stays.
+    ///
+    /// A port of `Vec::truncate`, which the original has by its `Deref`.
+    pub fn truncate(&mut self, len: usize)
+        ensures front { self.new.items ≡ take len self.old.items }
+        ensures capacity_stays { self.new.capacity ≡ self.old.capacity }
+    {
+        self.inner.truncate(len);
+    }
+
+    /// Drops all elements. The capacity stays.
+    ///
+    /// A port of `Vec::clear`.
+    pub fn clear(&mut self)
+        ensures empty { self.new.items ≡ [] }
+        ensures capacity_stays { self.new.capacity ≡ self.old.capacity }
+    {
+        self.inner.clear();
+    }
+}
+
+/// The element at a place below the length. A port of the slices' `Index<usize>`.
+impl<T> Index<usize> for TryVec<T> {
+    type Output = T;
+
+    ghost can_index = { λ v i. i < length v.items };
+
+    ghost index_gives = { λ v i x. slice_get v.items i ≡ Some x };
+
+    fn index(&self, i: usize) -> &T {
+        &self.inner[i]
+    }
+}
+
+/// The element at a place below the length, to be read and written. What is written is what that place then has;
+/// the other elements and the capacity stay. A port of the slices' `IndexMut<usize>`.
+impl<T> IndexMut<usize> for TryVec<T> {
+    ghost use Rattle.wic_vec.specs.VecLends.{lends_item};
+
+    fn index_mut(&mut self, i: usize) -> &mut T
+        requires { i < length self.old.items }
+        ensures* writes_back { sem 𝓛 (lends_item T.row self.entry i result) }
+        ensures item { slice_get self.old.items i ≡ Some result.now }
+    {
+        &mut self.inner[i]
     }
 }
 
