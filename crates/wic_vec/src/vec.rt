@@ -4,6 +4,8 @@ ghost use Rattle.std.specs.Option.{option_copied};
 ghost use Rattle.std.specs.Borrow.{sem};
 ghost use Rattle.wic_vec.specs.TryVec.{HasRoomFor};
 
+mod iter;
+
 use std::alloc::Global;
 use std::marker::Model;
 use std::ops::{Index, IndexMut};
@@ -180,7 +182,7 @@ impl<T> TryVec<T> {
     /// The elements in place, to be read and written. What is written there is what the vector then has; its
     /// length and its capacity stay.
     ///
-    /// A port of `TryVec`'s `DerefMut`, under the name that `Vec` has for it.
+    /// A port of `TryVec::deref_mut`, under the name that a `Vec` has for it.
     pub fn as_mut_slice(&mut self) -> &mut [T]
         ensures* writes_back { sem 𝓛 (lends_slice T.row self.entry result) }
         ensures items { result.now ≡ self.old.items }
@@ -190,7 +192,7 @@ impl<T> TryVec<T> {
 
     /// The element at place `i`, or `None` exactly where `i` isn't below the length.
     ///
-    /// A port of the slices' `get`, which `TryVec` has by its `Deref`.
+    /// A port of `get`, which `TryVec` has from slices.
     pub fn get(&self, i: usize) -> Option<&T>
         ensures found { IsSome result ↔ (i < length self.now.items) }
         ensures item { option_copied result ≡ slice_get self.now.items i }
@@ -201,7 +203,7 @@ impl<T> TryVec<T> {
     /// The element at place `i`, to be read and written, or `None` exactly where `i` isn't below the length. What
     /// is written is what place `i` then has. The other elements and the capacity stay, and at `None` all does.
     ///
-    /// A port of the slices' `get_mut`, which `TryVec` has by its `DerefMut`.
+    /// A port of `get_mut`, which `TryVec` has from slices.
     pub fn get_mut(&mut self, i: usize) -> Option<&mut T>
         ensures* writes_back { sem 𝓛 (lends_get T.row self.entry i result) }
         ensures found { IsSome result ↔ (i < length self.old.items) }
@@ -215,7 +217,7 @@ impl<T: Drop> TryVec<T> {
     /// Keeps the first `len` elements, or all of them where there are no more than that, and drops the others. The
     /// capacity stays.
     ///
-    /// A port of `Vec::truncate`, which the original has by its `Deref`.
+    /// A port of `TryVec::truncate`.
     pub fn truncate(&mut self, len: usize)
         ensures front { self.new.items ≡ take len self.old.items }
         ensures capacity_stays { self.new.capacity ≡ self.old.capacity }
@@ -225,7 +227,7 @@ impl<T: Drop> TryVec<T> {
 
     /// Drops all elements. The capacity stays.
     ///
-    /// A port of `Vec::clear`.
+    /// A port of `TryVec::clear`.
     pub fn clear(&mut self)
         ensures empty { self.new.items ≡ [] }
         ensures capacity_stays { self.new.capacity ≡ self.old.capacity }
@@ -234,7 +236,7 @@ impl<T: Drop> TryVec<T> {
     }
 }
 
-/// The element at a place below the length. A port of the slices' `Index<usize>`.
+/// The element at a place below the length. A port of `TryVec`'s `Index`, at a place.
 impl<T> Index<usize> for TryVec<T> {
     type Output = T;
 
@@ -248,7 +250,7 @@ impl<T> Index<usize> for TryVec<T> {
 }
 
 /// The element at a place below the length, to be read and written. What is written is what that place then has;
-/// the other elements and the capacity stay. A port of the slices' `IndexMut<usize>`.
+/// the other elements and the capacity stay. A port of `TryVec`'s `IndexMut`, at a place.
 impl<T> IndexMut<usize> for TryVec<T> {
     ghost use Rattle.wic_vec.specs.VecLends.{lends_item};
 
