@@ -5,4 +5,4 @@ mod string;
 mod vec;
 
 pub use string::TryString;
-pub use vec::TryVec;
+pub use vec::{Drain, TryVec};

@@ -4,8 +4,10 @@ ghost use Rattle.std.specs.Option.{option_copied};
 ghost use Rattle.std.specs.Borrow.{sem};
 ghost use Rattle.wic_vec.specs.TryVec.{HasRoomFor};
 
+mod drain;
 mod iter;
 
+pub use drain::Drain;
 use std::alloc::Global;
 use std::marker::Model;
 use std::ops::{Index, IndexMut};

@@ -1,0 +1,2 @@
+pub mod DrainRuns
+pub mod Moved
