@@ -269,3 +269,6 @@ impl<T> IndexMut<usize> for TryVec<T> {
 fn wanting(length: usize, additional: usize) -> OutOfMemory {
     OutOfMemory::new(length.saturating_add(additional))
 }
+
+#[cfg(test)]
+mod tests;

@@ -1,0 +1,180 @@
+ghost use Rattle.std.specs.Prelude.{◌≡◌, ◌<◌, ◌≤◌, length, reverse, slice_index, slice_set, EachIndex, IfOk};
+ghost use Rattle.std.specs.List.{All, remove_range};
+
+use super::*;
+use std::test::Fail;
+
+// A vector of these numbers.
+fn of(alloc: Global, numbers: &[u32]) -> Result<TryVec<u32>, OutOfMemory>
+    ensures items { IfOk result (λ v. v.items ≡ numbers.now) }
+{
+    let mut v = TryVec::with_capacity(alloc, numbers.len())?;
+    for number in numbers {
+        v.push(*number)?;
+    }
+    Ok(v)
+}
+
+// What the contracts tell a caller: each of these writes, or takes out, and its contract says what stands then.
+fn write_at(v: &mut TryVec<u32>, place: usize, number: u32)
+    requires { place < length v.old.items }
+    ensures items { v.new.items ≡ slice_set v.old.items place number }
+    ensures capacity { v.new.capacity ≡ v.old.capacity }
+{
+    v[place] = number;
+}
+
+fn write_if_there(v: &mut TryVec<u32>, place: usize, number: u32)
+    ensures items { v.new.items ≡ slice_set v.old.items place number }
+    ensures capacity { v.new.capacity ≡ v.old.capacity }
+{
+    if let Some(there) = v.get_mut(place) {
+        *there = number;
+    }
+}
+
+fn turn_round(v: &mut TryVec<u32>)
+    ensures items { v.new.items ≡ reverse v.old.items }
+    ensures capacity { v.new.capacity ≡ v.old.capacity }
+{
+    v.as_mut_slice().reverse();
+}
+
+fn write_everywhere(v: &mut TryVec<u32>, number: u32)
+    ensures each { EachIndex v.new.items (λ k. slice_index v.new.items k ≡ number) }
+    ensures length { length v.new.items ≡ length v.old.items }
+    ensures capacity { v.new.capacity ≡ v.old.capacity }
+{
+    for there in v.as_mut_slice() {
+        *there = number;
+    }
+}
+
+fn write_one_by_one(v: &mut TryVec<u32>, number: u32)
+    ensures length { length v.new.items ≡ length v.old.items }
+    ensures capacity { v.new.capacity ≡ v.old.capacity }
+{
+    for there in v.iter_mut() {
+        *there = number;
+    }
+}
+
+fn take_out(v: &mut TryVec<u32>, lo: usize, hi: usize)
+    requires order { lo ≤ hi }
+    requires within { hi ≤ length v.old.items }
+    ensures items { v.new.items ≡ remove_range v.old.items lo hi }
+    ensures capacity { v.new.capacity ≡ v.old.capacity }
+{
+    let mut part = v.drain(lo, hi);
+    part.next();
+}
+
+fn greatest(v: &TryVec<u32>) -> u32
+    ensures within { All (λ number. number ≤ result) v.now.items }
+{
+    v.iter().copied().max().unwrap_or(0)
+}
+
+fn count_all(v: TryVec<u32>) -> usize
+    ensures length { result ≡ length v.items }
+{
+    v.into_iter().count()
+}
+
+#[test]
+fn drain_gives_a_part_and_leaves_the_others(rt: HostRuntime) -> Result<(), Fail> {
+    let mut v = of(rt.alloc(), &[10, 20, 30, 40])?;
+    let room = v.capacity();
+    let mut given = TryVec::new(rt.alloc());
+    for number in v.drain(1, 3) {
+        given.push(number)?;
+    }
+    assert_eq!(rt; given.as_slice(), [20, 30].as_slice());
+    assert_eq!(rt; v.as_slice(), [10, 40].as_slice());
+    assert_eq!(rt; v.drain(0, 0).next(), None);
+    assert_eq!(rt; v.as_slice(), [10, 40].as_slice());
+    assert_eq!(rt; v.capacity(), room);
+    Ok(())
+}
+
+#[test]
+fn drain_dropped_early_leaves_the_others(rt: HostRuntime) -> Result<(), Fail> {
+    let mut v = of(rt.alloc(), &[10, 20, 30, 40])?;
+    let mut part = v.drain(1, 3);
+    assert_eq!(rt; part.len(), 2);
+    assert_eq!(rt; part.next(), Some(20));
+    assert_eq!(rt; part.size_hint(), (1, Some(1)));
+    drop(part);
+    assert_eq!(rt; v.as_slice(), [10, 40].as_slice());
+    Ok(())
+}
+
+#[test]
+fn cut_short_and_popped(rt: HostRuntime) -> Result<(), Fail> {
+    let mut v = of(rt.alloc(), &[1, 2])?;
+    let room = v.capacity();
+    v.truncate(5);
+    assert_eq!(rt; v.as_slice(), [1, 2].as_slice());
+    assert_eq!(rt; v.get(2), None);
+    assert_eq!(rt; v.pop(), Some(2));
+    assert_eq!(rt; v.pop(), Some(1));
+    assert_eq!(rt; v.pop(), None);
+    assert_eq!(rt; v.capacity(), room);
+    let mut v = of(rt.alloc(), &[1, 2, 3])?;
+    v.truncate(1);
+    assert_eq!(rt; v.as_slice(), [1].as_slice());
+    v.clear();
+    assert!(rt; v.is_empty());
+    Ok(())
+}
+
+#[test]
+fn writes_are_seen(rt: HostRuntime) -> Result<(), Fail> {
+    let mut v = of(rt.alloc(), &[1, 2, 3, 4])?;
+    if let Some(number) = v.get_mut(0) {
+        *number = 10;
+    }
+    assert!(rt; v.get_mut(4).is_none());
+    v[1] = 20;
+    v.as_mut_slice()[2] = 30;
+    assert_eq!(rt; v.as_slice(), [10, 20, 30, 4].as_slice());
+    for number in v.iter_mut() {
+        *number /= 2;
+    }
+    assert_eq!(rt; v.as_slice(), [5, 10, 15, 2].as_slice());
+    for number in &mut v {
+        *number += 1;
+    }
+    assert_eq!(rt; v.get(0), Some(&6));
+    assert_eq!(rt; v[3], 3);
+    assert_eq!(rt; v.iter().copied().max(), Some(16));
+    Ok(())
+}
+
+#[test]
+fn walks_in_order(rt: HostRuntime) -> Result<(), Fail> {
+    let v = of(rt.alloc(), &[3, 1, 2])?;
+    let mut read = of(rt.alloc(), &[])?;
+    for number in &v {
+        read.push(*number)?;
+    }
+    for number in v.iter().rev() {
+        read.push(*number)?;
+    }
+    assert_eq!(rt; read.as_slice(), [3, 1, 2, 2, 1, 3].as_slice());
+    let mut taken = of(rt.alloc(), &[])?;
+    for number in v {
+        taken.push(number)?;
+    }
+    assert_eq!(rt; taken.as_slice(), [3, 1, 2].as_slice());
+    Ok(())
+}
+
+#[test]
+fn exact_room_is_found(rt: HostRuntime) -> Result<(), Fail> {
+    let mut v = of(rt.alloc(), &[1])?;
+    v.reserve_exact(9)?;
+    assert_eq!(rt; v.capacity(), 10);
+    assert_eq!(rt; v.as_slice(), [1].as_slice());
+    Ok(())
+}
