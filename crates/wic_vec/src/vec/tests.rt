@@ -1,7 +1,8 @@
-ghost use Rattle.std.specs.Prelude.{◌≡◌, ◌<◌, ◌≤◌, length, reverse, slice_index, slice_set, EachIndex, IfOk};
+ghost use Rattle.std.specs.Prelude.{◌≡◌, ◌<◌, ◌≤◌, length, reverse, slice_index, slice_range, slice_set, EachIndex, IfOk};
 ghost use Rattle.std.specs.List.{All, remove_range};
 
 use super::*;
+use std::alloc::AllocError;
 use std::test::Fail;
 
 // A vector of these numbers.
@@ -75,25 +76,52 @@ fn greatest(v: &TryVec<u32>) -> u32
     v.iter().copied().max().unwrap_or(0)
 }
 
-fn count_all(v: TryVec<u32>) -> usize
-    ensures length { result ≡ length v.items }
+fn gather(alloc: Global, v: TryVec<u32>) -> Result<Vec<u32>, AllocError>
+    ensures items { IfOk result (λ w. w.items ≡ v.items) }
 {
-    v.into_iter().count()
+    v.into_iter().collect(alloc)
+}
+
+fn gather_part(
+    alloc: Global,
+    v: &mut TryVec<u32>,
+    lo: usize,
+    hi: usize,
+) -> Result<Vec<u32>, AllocError>
+    requires order { lo ≤ hi }
+    requires within { hi ≤ length v.old.items }
+    ensures items { IfOk result (λ w. w.items ≡ slice_range v.old.items lo hi) }
+    ensures left { v.new.items ≡ remove_range v.old.items lo hi }
+    ensures capacity { v.new.capacity ≡ v.old.capacity }
+{
+    let mut part = Vec::new(alloc);
+    for number in v.drain(lo, hi) {
+        part.push(number)?;
+    }
+    Ok(part)
+}
+
+fn gather_copies(alloc: Global, v: &TryVec<u32>) -> Result<Vec<u32>, AllocError>
+    ensures items { IfOk result (λ w. w.items ≡ v.now.items) }
+{
+    v.into_iter().copied().collect(alloc)
 }
 
 #[test]
 fn drain_gives_a_part_and_leaves_the_others(rt: HostRuntime) -> Result<(), Fail> {
     let mut v = of(rt.alloc(), &[10, 20, 30, 40])?;
     let room = v.capacity();
-    let mut given = TryVec::new(rt.alloc());
-    for number in v.drain(1, 3) {
-        given.push(number)?;
+    for (lo, hi, given, left) in [
+        (1, 3, [20, 30].as_slice(), [10, 40].as_slice()),
+        (0, 0, [].as_slice(), [10, 40].as_slice()),
+        (0, 2, [10, 40].as_slice(), [].as_slice()),
+    ] {
+        assert!(rt; lo <= hi && hi <= v.len());
+        let part = gather_part(rt.alloc(), &mut v, lo, hi)?;
+        assert_eq!(rt; part.as_slice(), given, "from {lo} to below {hi}");
+        assert_eq!(rt; v.as_slice(), left, "after {lo} to below {hi}");
+        assert_eq!(rt; v.capacity(), room);
     }
-    assert_eq!(rt; given.as_slice(), [20, 30].as_slice());
-    assert_eq!(rt; v.as_slice(), [10, 40].as_slice());
-    assert_eq!(rt; v.drain(0, 0).next(), None);
-    assert_eq!(rt; v.as_slice(), [10, 40].as_slice());
-    assert_eq!(rt; v.capacity(), room);
     Ok(())
 }
 
@@ -106,6 +134,8 @@ fn drain_dropped_early_leaves_the_others(rt: HostRuntime) -> Result<(), Fail> {
     assert_eq!(rt; part.size_hint(), (1, Some(1)));
     drop(part);
     assert_eq!(rt; v.as_slice(), [10, 40].as_slice());
+    take_out(&mut v, 0, 1);
+    assert_eq!(rt; v.as_slice(), [40].as_slice());
     Ok(())
 }
 
@@ -130,24 +160,24 @@ fn cut_short_and_popped(rt: HostRuntime) -> Result<(), Fail> {
 
 #[test]
 fn writes_are_seen(rt: HostRuntime) -> Result<(), Fail> {
-    let mut v = of(rt.alloc(), &[1, 2, 3, 4])?;
-    if let Some(number) = v.get_mut(0) {
-        *number = 10;
-    }
-    assert!(rt; v.get_mut(4).is_none());
-    v[1] = 20;
-    v.as_mut_slice()[2] = 30;
-    assert_eq!(rt; v.as_slice(), [10, 20, 30, 4].as_slice());
-    for number in v.iter_mut() {
-        *number /= 2;
-    }
-    assert_eq!(rt; v.as_slice(), [5, 10, 15, 2].as_slice());
+    let mut v = of(rt.alloc(), &[1, 2, 3])?;
+    write_if_there(&mut v, 0, 10);
+    write_if_there(&mut v, 3, 40);
+    assert_eq!(rt; v.as_slice(), [10, 2, 3].as_slice());
+    write_at(&mut v, 1, 20);
+    assert_eq!(rt; v.as_slice(), [10, 20, 3].as_slice());
+    turn_round(&mut v);
+    assert_eq!(rt; v.as_slice(), [3, 20, 10].as_slice());
+    assert_eq!(rt; greatest(&v), 20);
     for number in &mut v {
         *number += 1;
     }
-    assert_eq!(rt; v.get(0), Some(&6));
-    assert_eq!(rt; v[3], 3);
-    assert_eq!(rt; v.iter().copied().max(), Some(16));
+    assert_eq!(rt; v.get(0), Some(&4));
+    assert_eq!(rt; v[2], 11);
+    write_one_by_one(&mut v, 7);
+    assert_eq!(rt; v.as_slice(), [7, 7, 7].as_slice());
+    write_everywhere(&mut v, 8);
+    assert_eq!(rt; v.as_slice(), [8, 8, 8].as_slice());
     Ok(())
 }
 
@@ -162,11 +192,11 @@ fn walks_in_order(rt: HostRuntime) -> Result<(), Fail> {
         read.push(*number)?;
     }
     assert_eq!(rt; read.as_slice(), [3, 1, 2, 2, 1, 3].as_slice());
-    let mut taken = of(rt.alloc(), &[])?;
-    for number in v {
-        taken.push(number)?;
-    }
-    assert_eq!(rt; taken.as_slice(), [3, 1, 2].as_slice());
+    assert_eq!(rt;
+        gather_copies(rt.alloc(), &v)?.as_slice(),
+        [3, 1, 2].as_slice()
+    );
+    assert_eq!(rt; gather(rt.alloc(), v)?.as_slice(), [3, 1, 2].as_slice());
     Ok(())
 }
 
