@@ -3,6 +3,7 @@ use Rattle.std.proofs.Common.{◌≡◌, ◌≢◌, ◌⊎◌, ℕ, ◌+◌, ◌
 use Rattle.std.specs.Prelude.{codes}
 use Rattle.std.specs.List.{AllByRecursion, flat_map}
 use Rattle.std.specs.Fmt.{decimal}
+use Rattle.std.proofs.lemmas.Fmt.{decimal_injective}
 use Rattle.batch_core.specs.declared.command.Command.{Command}
 use Rattle.batch_core.specs.declared.command.Command.TheVariants.{Push}
 use Rattle.batch_core.specs.declared.command.End.{End}
@@ -77,3 +78,40 @@ pub begun_is_no_script : (cs : List (Command ℕ)) (items : List Item) → codes
 begun_is_no_script cs [] same = cc
 begun_is_no_script cs (batch ds f ∷ items) same =
     let tails : map command_line cs ≡ batch_lines ds f (all_lines items) = cc in unended cs ds f (all_lines items) tails
+
+command_line-injective : (c d : Command ℕ) → IsValidCommand c → IsValidCommand d → command_line c ≡ command_line d → c ≡ d
+command_line-injective (Push v) (Push w) small below same =
+    let digits : decimal v ≡ decimal w = ap (drop 5) same in ap Push (decimal_injective v w small below digits)
+
+end_line-injective : (e f : End) → end_line e ≡ end_line f → e ≡ f
+end_line-injective Commit Commit same = refl
+end_line-injective Commit Abort same = absurd (let heads : 99 ≡ 97 = ap first_byte same in omega (arith, heads))
+end_line-injective Abort Commit same = absurd (let heads : 97 ≡ 99 = ap first_byte same in omega (arith, heads))
+end_line-injective Abort Abort same = refl
+
+same_batch : (cs ds : List (Command ℕ)) (e f : End) (rest more : List Line) → batch_lines cs e rest ≡ batch_lines ds f more → AllByRecursion IsValidCommand cs → AllByRecursion IsValidCommand ds → (cs ≡ ds) × (e ≡ f)
+same_batch [] [] e f rest more same valid sound = (refl, end_line-injective e f cc)
+same_batch [] (d ∷ ds) e f rest more same valid sound =
+    let heads : end_line e ≡ command_line d = cc in absurd (command_line≢end_line d e (sym heads))
+same_batch (c ∷ cs) [] e f rest more same valid sound =
+    let heads : command_line c ≡ end_line f = cc in absurd (command_line≢end_line c f heads)
+same_batch (c ∷ cs) (d ∷ ds) e f rest more same valid sound =
+    let heads : command_line c ≡ command_line d = cc in
+    let tails : batch_lines cs e rest ≡ batch_lines ds f more = cc in
+    let later = same_batch cs ds e f rest more tails valid.1 sound.1 in
+    let first : c ≡ d = command_line-injective c d valid.0 sound.0 heads in
+    let others : cs ≡ ds = later.0 in
+    (cc, later.1)
+
+-- an input is the script of one list of items alone
+pub one_script : (items others : List Item) → AllByRecursion IsValidItem items → AllByRecursion IsValidItem others → all_lines items ≡ all_lines others → items ≡ others
+one_script [] [] valid sound same = refl
+one_script [] (batch ds f ∷ others) valid sound same = absurd (let bad : _ = same in cc)
+one_script (batch cs e ∷ items) [] valid sound same = absurd (let bad : _ = same in cc)
+one_script (batch cs e ∷ items) (batch ds f ∷ others) valid sound same =
+    let tails : batch_lines cs e (all_lines items) ≡ batch_lines ds f (all_lines others) = cc in
+    let parts = same_batch cs ds e f (all_lines items) (all_lines others) tails valid.0 sound.0 in
+    let commands : cs ≡ ds = parts.0 in
+    let ends : e ≡ f = parts.1 in
+    let later : items ≡ others = one_script items others valid.1 sound.1 (rest-after_batch cs ds e f (all_lines items) (all_lines others) tails) in
+    cc

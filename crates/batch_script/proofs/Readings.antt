@@ -10,19 +10,11 @@ use Rattle.batch_core.specs.declared.command.End.TheVariants.{Commit}
 use Rattle.batch_script.specs.Machine.{Item, batch}
 use Rattle.batch_script.specs.Grammar.{Line, IsValidItem, IsValidCommand, command_line, end_line, printed_lines, all_lines, lines_of, IsOpen, IsScript, IsScriptOf, IsFaultLine}
 use Rattle.batch_script.specs.Reading.{AreRead, open_lines, IsValidOpen}
+use Rattle.batch_script.proofs.Lists.{AllByRecursion-append, flat_map-append, map-append}
 use Rattle.batch_script.proofs.Prefixes.{rest-after_items, first_line, next_line_in_batch, begun_is_no_script, GoesOn}
 
 all_lines-append : (xs ys : List Item) → all_lines (xs ++ ys) ≡ all_lines xs ++ all_lines ys
-all_lines-append [] ys = refl
-all_lines-append (x ∷ xs) ys = ap (λ later. printed_lines x ++ later) (all_lines-append xs ys) ∙ sym (append_assoc (printed_lines x) (all_lines xs) (all_lines ys))
-
-AllByRecursion-append : {X : Type 0} (P : X → Type 0) (xs ys : List X) → AllByRecursion P xs → AllByRecursion P ys → AllByRecursion P (xs ++ ys)
-AllByRecursion-append P [] ys h k = k
-AllByRecursion-append P (x ∷ xs) ys h k = (h.0, AllByRecursion-append P xs ys h.1 k)
-
-map-append : {X Y : Type 0} (f : X → Y) (xs ys : List X) → map f (xs ++ ys) ≡ map f xs ++ map f ys
-map-append f [] ys = refl
-map-append f (x ∷ xs) ys = ap (λ later. f x ∷ later) (map-append f xs ys)
+all_lines-append xs ys = flat_map-append printed_lines xs ys
 
 -- a batch begins
 pub read-begin : (items : List Item) (lines : List Line) (line : Line) → AreRead items None lines → line ≡ codes "begin" → AreRead items (Some []) (lines ++ line ∷ [])

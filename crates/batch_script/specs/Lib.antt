@@ -1,8 +1,12 @@
 -- What a script is, what a run of it is, and the text of its replies.
+pub mod Attempt
 pub mod Device
 pub mod Grammar
+pub mod Headline
 pub mod Machine
 pub mod MemoryDevice
 pub mod Reading
 pub mod Refusal
 pub mod Reply
+pub mod RunText
+pub mod Step

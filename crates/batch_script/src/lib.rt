@@ -1,12 +1,16 @@
 //! Scripts of batches: how they are read, run and answered.
 #![tactic(auto)]
 
+mod apply;
 mod device;
 mod item;
 mod memory_device;
 mod parse;
-mod run;
+mod program;
+mod reply;
+mod runner;
 
 pub use device::{Failed, Sink, Source};
 pub use memory_device::{MemSink, MemSource, PlainSource};
-pub use run::RunError;
+pub use program::{INPUT_LIMIT, Status, top};
+pub use runner::{RunError, run};

@@ -8,7 +8,7 @@ ghost use Rattle.batch_script.specs.Reading.{AreRead, IsPlain, plain_items};
 ghost use Rattle.batch_script.specs.Refusal.{IsJustified};
 
 use crate::item::{Item, Script};
-use crate::run::RunError;
+use crate::runner::RunError;
 use batch_core::{Batch, Command, End};
 use std::alloc::Global;
 use std::str;

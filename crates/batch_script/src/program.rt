@@ -1,0 +1,204 @@
+//! The whole program, over any source and any sink.
+ghost use Rattle.std.specs.Prelude.{◌≡◌, ◌≢◌, ◌⊎◌, ◌+◌, ◌<◌, ◌≤◌, ◌++◌, ℕ, List, [], length, Some, IfOk, IfErr, OnOk, OnErr};
+ghost use Rattle.batch_script.specs.Attempt.{Answers, Attempts, Finishes, IsReadEnd, ReadsAll, WritesFront, WritesWhole};
+ghost use Rattle.batch_script.specs.Device.{Rose};
+ghost use Rattle.batch_script.specs.Grammar.{IsScript, IsFaultLine};
+ghost use Rattle.batch_script.specs.Headline.{Gains, IsBeyondLimit, IsNoScript, Premises, ReadsToEnd, RunsWhole, WantsMemory, input_limit};
+ghost use Rattle.batch_script.specs.Machine.{Item};
+ghost use Rattle.batch_script.specs.declared.program.Status.{Status};
+
+use crate::device::{Failed, Sink, Source};
+use crate::memory_device::append;
+use crate::runner::{RunError, run};
+use std::alloc::Global;
+use wic_vec::{TryString, TryVec};
+
+/// The most bytes that an input may have.
+pub const INPUT_LIMIT: usize = 67108864;
+
+/// How many bytes are asked for at a time.
+const PIECE: usize = 4096;
+
+/// How the program ended. Own.
+#[derive(Clone, Copy, Debug, PartialEq, Eq)]
+pub enum Status {
+    /// The replies were written whole.
+    Done,
+    /// The input is no script.
+    Syntax,
+    /// There was no memory.
+    Oom,
+    /// A read failed.
+    ReadFault,
+    /// A write failed.
+    WriteFault,
+    /// The input has more bytes than the limit.
+    TooLong,
+    /// The words of the command line ask for nothing that there is.
+    Usage,
+}
+
+impl Status {
+    ghost use Rattle.batch_script.specs.Headline.{code_of};
+
+    /// The status as a number, from 0 to 6 in the order of the variants. Own.
+    pub fn code(self) -> u8
+        ensures code { result ≡ code_of self }
+    {
+        self as u8
+    }
+}
+
+/// Why an input was not read to its end.
+enum ReadEnd {
+    Fault,
+    TooLong,
+    Oom,
+}
+
+/// Reads to the end of the input, in pieces.
+fn read_input<S: Source>(alloc: Global, source: &mut S) -> Result<TryVec<u8>, ReadEnd>
+    ensures bytes { IfOk result (λ bytes. ReadsAll (S.left source.old) (S.left source.new) bytes.items) }
+    ensures kept { OnOk result (S.faults source.new ≡ S.faults source.old) }
+    ensures end { IfErr result (IsReadEnd (S.left source.old) (S.faults source.old) (S.faults source.new)) }
+{
+    let mut bytes = TryVec::new(alloc);
+    let mut piece = [0; PIECE];
+    loop {
+        match source.read(&mut piece) {
+            Ok(0) => return Ok(bytes),
+            Ok(count) => take_piece(&mut bytes, &piece[..count])?,
+            Err(Failed) => return Err(ReadEnd::Fault),
+        }
+    }
+}
+
+/// Puts a piece at the end of what was read, up to the limit.
+fn take_piece(bytes: &mut TryVec<u8>, piece: &[u8]) -> Result<(), ReadEnd>
+    requires within { length bytes.old.items ≤ input_limit }
+    ensures taken { OnOk result (bytes.new.items ≡ bytes.old.items ++ piece.now) }
+    ensures fits { OnOk result (length bytes.new.items ≤ input_limit) }
+    ensures no_fault { result ≢ Err ReadEnd.Fault }
+    ensures too_long { result ≡ Err ReadEnd.TooLong → input_limit < length bytes.old.items + length piece.now }
+{
+    if piece.len() > INPUT_LIMIT - bytes.len() {
+        return Err(ReadEnd::TooLong);
+    }
+    if bytes.reserve(piece.len()).is_err() {
+        return Err(ReadEnd::Oom);
+    }
+    append(bytes, piece);
+    Ok(())
+}
+
+/// Writes a text whole, in pieces that the sink takes.
+fn write_text<K: Sink>(text: &str, sink: &mut K) -> Result<(), Failed>
+    ensures whole { OnOk result (WritesWhole text.now (K.written sink.old) (K.written sink.new) (K.faults sink.old) (K.faults sink.new)) }
+    ensures front { OnErr result (WritesFront text.now (K.written sink.old) (K.written sink.new) (K.faults sink.old) (K.faults sink.new)) }
+{
+    let mut rest = text.as_bytes();
+    while !rest.is_empty() {
+        let count = sink.write(rest)?;
+        rest = &rest[count..];
+    }
+    Ok(())
+}
+
+/// Writes a text and answers the status, or that a write failed.
+fn finish<K: Sink>(text: &str, status: Status, sink: &mut K) -> Status
+    ensures { Finishes text.now status result (K.written sink.old) (K.written sink.new) (K.faults sink.old) (K.faults sink.new) }
+{
+    match write_text(text, sink) {
+        Ok(()) => status,
+        Err(Failed) => Status::WriteFault,
+    }
+}
+
+/// Runs the input and writes the replies, or why there are none.
+fn answer<K: Sink>(alloc: Global, input: &[u8], sink: &mut K) -> Status
+    ensures { (status : Status) × (text : List ℕ) × Answers status input.now text
+        × Finishes text status result (K.written sink.old) (K.written sink.new) (K.faults sink.old) (K.faults sink.new) }
+{
+    match run(alloc, input) {
+        Ok(text) => finish(text.as_str(), Status::Done, sink),
+        Err(RunError::Syntax { line }) => answer_syntax(alloc, line, sink),
+        Err(RunError::Oom) => finish("error: out of memory\n", Status::Oom, sink),
+    }
+}
+
+/// Writes at which line the input stops being a script.
+fn answer_syntax<K: Sink>(alloc: Global, line: u64, sink: &mut K) -> Status
+    ensures { (status : Status) × (text : List ℕ)
+        × ((input : List ℕ) → ¬ IsScript input → IsFaultLine input line → Answers status input text)
+        × Finishes text status result (K.written sink.old) (K.written sink.new) (K.faults sink.old) (K.faults sink.new) }
+{
+    match format!(in alloc; "error: syntax at line {line}\n") {
+        Ok(text) => finish(text.as_str(), Status::Syntax, sink),
+        Err(_) => finish("error: out of memory\n", Status::Oom, sink),
+    }
+}
+
+/// Does what `top` does, and says how it came to the status.
+fn conclude<S: Source, K: Sink>(
+    alloc: Global,
+    words: &TryVec<TryString>,
+    source: &mut S,
+    sink: &mut K,
+) -> Status
+    ensures { (status : Status) × (text : List ℕ)
+        × Attempts status words.now.items (S.left source.old) (S.left source.new) (S.faults source.old) (S.faults source.new) text
+        × Finishes text status result (K.written sink.old) (K.written sink.new) (K.faults sink.old) (K.faults sink.new) }
+{
+    if !words.is_empty() {
+        return finish("usage: batch [gen SEED N]\n", Status::Usage, sink);
+    }
+    match read_input(alloc, source) {
+        Ok(input) => answer(alloc, input.as_slice(), sink),
+        Err(ReadEnd::Fault) => finish("error: read fault\n", Status::ReadFault, sink),
+        Err(ReadEnd::TooLong) => finish("error: input too long\n", Status::TooLong, sink),
+        Err(ReadEnd::Oom) => finish("error: out of memory\n", Status::Oom, sink),
+    }
+}
+
+/// The whole program: reads a script from `source`, runs it, and writes the replies to `sink`. Own.
+///
+/// Any word is answered by the usage, and nothing is read. Else input is read to its end in pieces of 4096 bytes;
+/// then the replies of the script are written, or one line that says why there are none. The status says which.
+/// Each write is offered all that is left of the text; an empty text makes no write, and the first failed one ends
+/// the call.
+pub fn top<S: Source, K: Sink>(
+    alloc: Global,
+    words: &TryVec<TryString>,
+    source: &mut S,
+    sink: &mut K,
+) -> Status
+    // For every script the text of one run of its items is written whole, or memory was wanted.
+    ensures headline { (input held : List ℕ) (items : List Item)
+        → Premises words.now.items (S.left source.old) (K.written sink.old)
+        (S.faults source.old) (S.faults source.new) (K.faults sink.old) (K.faults sink.new) input held items
+        → RunsWhole result (K.written sink.new) held items ⊎ WantsMemory result (K.written sink.new) held }
+
+    // What is written, with each status.
+    ensures gains { (held : List ℕ) → K.written sink.old ≡ Some held
+        → (gained : List ℕ) × Gains result (S.left source.old) gained × (K.written sink.new ≡ Some (held ++ gained)) }
+
+    // When each status comes.
+    ensures done { result ≡ Status.Done → (words.now.items ≡ []) × ReadsToEnd (S.left source.old) (S.left source.new)
+        × (S.faults source.new ≡ S.faults source.old) × (K.faults sink.new ≡ K.faults sink.old) }
+    ensures syntax { result ≡ Status.Syntax → (words.now.items ≡ []) × IsNoScript (S.left source.old)
+        × (S.faults source.new ≡ S.faults source.old) × (K.faults sink.new ≡ K.faults sink.old) }
+    ensures syntax_enough { (input : List ℕ) → words.now.items ≡ [] → S.left source.old ≡ Some input
+        → length input ≤ input_limit → ¬ IsScript input
+        → ¬ Rose (S.faults source.old) (S.faults source.new) → ¬ Rose (K.faults sink.old) (K.faults sink.new)
+        → (result ≡ Status.Syntax) ⊎ (result ≡ Status.Oom) }
+    ensures oom { result ≡ Status.Oom → words.now.items ≡ [] }
+    ensures read_fault { result ≡ Status.ReadFault → (words.now.items ≡ []) × Rose (S.faults source.old) (S.faults source.new) }
+    ensures write_fault { result ≡ Status.WriteFault → Rose (K.faults sink.old) (K.faults sink.new) }
+    ensures too_long { result ≡ Status.TooLong → (words.now.items ≡ []) × IsBeyondLimit (S.left source.old)
+        × (S.faults source.new ≡ S.faults source.old) × (K.faults sink.new ≡ K.faults sink.old) }
+    ensures usage { result ≡ Status.Usage → (words.now.items ≢ []) × (K.faults sink.new ≡ K.faults sink.old) }
+    ensures usage_enough { words.now.items ≢ [] → ¬ Rose (K.faults sink.old) (K.faults sink.new) → result ≡ Status.Usage }
+    ensures usage_reads_nothing { words.now.items ≢ [] → (S.left source.new ≡ S.left source.old) × (S.faults source.new ≡ S.faults source.old) }
+{
+    conclude(alloc, words, source, sink)
+}
