@@ -1,0 +1,42 @@
+//! The program: reads a script of batches from standard input and writes the replies to standard output.
+#![tactic(auto)]
+
+mod standard_device;
+
+use batch_script::{Status, top};
+use standard_device::{StdSink, StdSource};
+use std::process::ExitCode;
+use std::{env, io};
+use wic_vec::{TryString, TryVec};
+
+/// Ends with the code of the status. Where the words of the command line can't be had nothing is written.
+fn main(rt: HostRuntime) -> ExitCode {
+    let status = match words(&rt) {
+        Ok(words) => {
+            let mut source = StdSource::new(rt.stdin());
+            let mut sink = StdSink::new(rt.stdout());
+            top(rt.alloc(), &words, &mut source, &mut sink)
+        }
+        Err(status) => status,
+    };
+    ExitCode::from(status.code())
+}
+
+/// The words after the program's name. A word that is no text is answered like one that asks for nothing there is.
+fn words(rt: &HostRuntime) -> Result<TryVec<TryString>, Status> {
+    let mut words = TryVec::new(rt.alloc());
+    for word in env::args(rt).map_err(status_of)?.skip(1) {
+        if words.push(TryString::from_string(word)).is_err() {
+            return Err(Status::Oom);
+        }
+    }
+    Ok(words)
+}
+
+/// The status where the words can't be had.
+fn status_of(error: io::Error) -> Status {
+    match error.kind() {
+        io::ErrorKind::OutOfMemory => Status::Oom,
+        _ => Status::Usage,
+    }
+}

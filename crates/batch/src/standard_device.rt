@@ -1,0 +1,75 @@
+//! Standard input and output as source and sink. Nothing is told of the bytes.
+ghost use Rattle.std.specs.Prelude.{◌≡◌, ◌<◌, ◌≤◌, length, None, IfSome};
+
+use batch_script::{Failed, Sink, Source};
+use std::io::{Read, Stdin, Stdout, Write};
+
+/// Standard input. It counts the reads that fail.
+#[derive(Drop)]
+pub struct StdSource {
+    input: Stdin,
+    faults: u64,
+}
+
+impl StdSource {
+    pub fn new(input: Stdin) -> StdSource {
+        StdSource { input, faults: 0 }
+    }
+}
+
+impl Source for StdSource {
+    ghost left = { λ _. None };
+
+    ghost faults = { λ s. s.faults };
+
+    fn read(&mut self, buf: &mut [u8]) -> Result<usize, Failed> {
+        match self.input.read(buf) {
+            Ok(count) => Ok(count),
+            Err(_) => {
+                self.faults = self.faults.saturating_add(1);
+                Err(Failed)
+            }
+        }
+    }
+}
+
+/// Standard output. It counts the writes that fail: an error of a write or of a flush, and a write that takes nothing
+/// of a piece that isn't empty.
+#[derive(Drop)]
+pub struct StdSink {
+    output: Stdout,
+    faults: u64,
+}
+
+impl StdSink {
+    pub fn new(output: Stdout) -> StdSink {
+        StdSink { output, faults: 0 }
+    }
+
+    // Writes and flushes: how many bytes were taken, or `None` at a fault.
+    fn put(&mut self, piece: &[u8]) -> Option<usize>
+        ensures within { IfSome result (λ count. count ≤ length piece.now) }
+        ensures progress { IfSome result (λ count. 0 < length piece.now → 0 < count) }
+        ensures kept { self.new.faults ≡ self.old.faults }
+    {
+        let count = self.output.write(piece).ok()?;
+        self.output.flush().ok()?;
+        (count > 0 || piece.is_empty()).then_some(count)
+    }
+}
+
+impl Sink for StdSink {
+    ghost written = { λ _. None };
+
+    ghost faults = { λ s. s.faults };
+
+    fn write(&mut self, piece: &[u8]) -> Result<usize, Failed> {
+        match self.put(piece) {
+            Some(count) => Ok(count),
+            None => {
+                self.faults = self.faults.saturating_add(1);
+                Err(Failed)
+            }
+        }
+    }
+}
