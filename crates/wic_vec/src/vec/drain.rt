@@ -1,7 +1,8 @@
 //! A part of a vector that is taken out.
-ghost use Rattle.std.specs.Prelude.{◌≡◌, ◌-◌, ◌<◌, ◌≤◌, ◌++◌, ◌^◌, length, take, drop, reverse, slice_range};
+ghost use Rattle.std.specs.Prelude.{◌≡◌, ◌≤◌, ◌++◌, length, take, drop, reverse, slice_range, Some, IfSome};
 ghost use Rattle.std.specs.List.{remove_range};
-ghost use Rattle.std.specs.Iterator.{item_count};
+ghost use Rattle.std.specs.Iterator.{item_count, UpTo};
+ghost use Rattle.std.specs.Iterator.SizeHint.{IsWithinCount};
 ghost use Rattle.std.specs.Iterator.Runs.{YieldsInOrder};
 
 use super::TryVec;
@@ -87,7 +88,11 @@ impl<'a, T: Drop> Iterator for Drain<'a, T> {
         self.vec.pop()
     }
 
-    fn size_hint(&self) -> (usize, Option<usize>) {
+    fn size_hint(&self) -> (usize, Option<usize>)
+        ensures lower { IsWithinCount result.0 (item_count drain_items self.now) }
+        ensures upper { IfSome result.1 (UpTo (item_count drain_items self.now)) }
+        ensures exact { result ≡ (length (drain_items self.now), Some (length (drain_items self.now))) }
+    {
         let count = self.len();
         (count, Some(count))
     }
