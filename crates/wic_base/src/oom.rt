@@ -81,7 +81,10 @@ mod tests {
         }
         let oom = OutOfMemory::new(8);
         let text = format!(in alloc; "{oom:?}")?;
-        assert_eq!(rt; text.as_str(), "OutOfMemory { requested_allocation_size: 8 }");
+        assert_eq!(rt;
+            text.as_str(),
+            "OutOfMemory { requested_allocation_size: 8 }"
+        );
         Ok(())
     }
 }

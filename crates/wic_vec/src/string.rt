@@ -171,3 +171,6 @@ impl TryString {
         self.inner.as_str()
     }
 }
+
+#[cfg(test)]
+mod tests;

@@ -208,3 +208,17 @@ fn exact_room_is_found(rt: HostRuntime) -> Result<(), Fail> {
     assert_eq!(rt; v.as_slice(), [1].as_slice());
     Ok(())
 }
+
+#[test]
+fn pushes_within_the_room_are_kept_in_order(rt: HostRuntime) -> Result<(), Fail> {
+    let mut v = TryVec::<u32>::with_capacity(rt.alloc(), 3)?;
+    for number in [1, 2, 3] {
+        v.push(number)?;
+        assert!(rt; v.capacity() >= 3);
+    }
+    assert_eq!(rt; v.pop(), Some(3));
+    assert_eq!(rt; v.as_slice(), [1, 2].as_slice());
+    v.reserve(10)?;
+    assert!(rt; v.capacity() >= 12);
+    Ok(())
+}

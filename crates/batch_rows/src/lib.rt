@@ -1,0 +1,9 @@
+//! Tests of the whole program over devices in memory: each script with the bytes that it is answered by.
+#![tactic(auto)]
+
+#[cfg(test)]
+mod faults;
+#[cfg(test)]
+mod program;
+#[cfg(test)]
+mod scripts;

@@ -1,0 +1,27 @@
+use super::*;
+use std::test::Fail;
+
+#[test]
+fn texts_grow_by_characters_and_by_texts(rt: HostRuntime) -> Result<(), Fail> {
+    let mut text = TryString::try_from_str(rt.alloc(), "hé")?;
+    text.push('!')?;
+    text.push_str("ok")?;
+    assert_eq!(rt; text.as_str(), "hé!ok");
+    assert_eq!(rt;
+        text.as_str().as_bytes(),
+        [0x68, 0xc3, 0xa9, 0x21, 0x6f, 0x6b].as_slice()
+    );
+    assert_eq!(rt; text.len(), 6);
+    Ok(())
+}
+
+#[test]
+fn texts_have_the_room_that_was_asked_for(rt: HostRuntime) -> Result<(), Fail> {
+    let mut text = TryString::with_capacity(rt.alloc(), 8)?;
+    assert!(rt; text.capacity() >= 8 && text.is_empty());
+    text.reserve(20)?;
+    assert!(rt; text.capacity() >= 20 && text.is_empty());
+    let own = format!(in rt.alloc(); "own")?;
+    assert_eq!(rt; TryString::from_string(own).as_str(), "own");
+    Ok(())
+}
