@@ -1,0 +1,274 @@
+-- Lemmas on the members of a number's set.
+use Rattle.std.proofs.Common.{⊎_elim, ◌≡◌, ℕ, zero, suc, ◌+◌, ◌-◌, ◌*◌, ◌^◌, ◌/◌, ◌%◌, ◌<◌, ◌≤◌, Bool, true, false, not, ◌&&◌, ◌||◌, ◌⊎◌, cond, eqb, ltb, leb, List, [], ◌∷◌, ◌++◌, length, get_or, refl, sym, ap, subst, ◌∙◌, inl, inr, arith, ◌↔◌, ◌≢◌, rules, zero-add, add-zero, append-nil, length-append}
+use Rattle.std.specs.Prelude.{◌==◌, nat_lt, nat_eq, Contains, All}
+use Rattle.std.specs.List.Sorted.{IsStrictlyIncreasing}
+use Rattle.std.specs.Int.{bit_at}
+use Rattle.std.specs.List.{filter, range_with_len, list_any}
+use Rattle.std.specs.Ordering.{nat_cmp, eq_by_cmp}
+use Rattle.std.specs.Cmp.{nat_cmp_total, unsigned_tied}
+use Rattle.std.specs.FinSet.{FinSet, contains, insert, remove, empty, from_list, same_set, contains-insert, contains-remove, contains-from_list_nat, nat_cmp-IsAntisymmetric}
+use Rattle.std.proofs.lemmas.Bool.{eq-eqb, eqb-true, ne_eqb, false≢true, lt-ltb, le-ltb, cases_eq, cases_lt, cases_Bool}
+use Rattle.std.proofs.lemmas.Bool.Decides.{nat_tests}
+use Rattle.std.proofs.lemmas.List.Elements.{All-nil, All-cons, All-contains, filter-append, Contains-push, Contains-from_at}
+use Rattle.std.proofs.lemmas.Map.Views.{Contains-from_any}
+use Rattle.std.proofs.lemmas.List.Kept.{IsStrictlyIncreasing-filter}
+use Rattle.std.proofs.lemmas.List.FromFn.{length-range_with_len, get_or-range_with_len}
+use Rattle.std.proofs.lemmas.Nat.{pow_pos, div_below, mod_below, shr_split, ones_cat}
+use Rattle.std.proofs.Math.Nat.{pow-suc}
+use lib.Count.{ones, ones-ones}
+use Rattle.wic_scalar.specs.Digits.{is_one, SameDigits, IsLowZeros, IsHighZeros}
+use Rattle.wic_scalar.specs.Scalar.{members_of, set_of}
+use Rattle.wic_scalar.proofs.DigitLemmas.{is_one-mod, top_digit}
+
+-- ---- a range that a test filters
+
+-- two tests that agree on the range keep the same numbers
+filter_agree_in : (p q : ℕ → Bool) (a n : ℕ) → ((i : ℕ) → a ≤ i → i < a + n → p i ≡ q i) → filter p (range_with_len a n) ≡ filter q (range_with_len a n)
+filter_agree_in p q a zero same = refl
+filter_agree_in p q a (suc n) same =
+    let here : p a ≡ q a = same a (omega arith) (omega arith) in
+    let rest : filter p (range_with_len (a + 1) n) ≡ filter q (range_with_len (a + 1) n) = filter_agree_in p q (a + 1) n (λ i low high. same i (omega arith) (omega arith)) in
+    rw (here, rest) refl
+
+-- a test that fails on the range keeps nothing
+filter_none_in : (p : ℕ → Bool) (a n : ℕ) → ((i : ℕ) → a ≤ i → i < a + n → p i ≡ false) → filter p (range_with_len a n) ≡ []
+filter_none_in p a zero none = refl
+filter_none_in p a (suc n) none =
+    rw (none a (omega arith) (omega arith)) (filter_none_in p (a + 1) n (λ i low high. none i (omega arith) (omega arith)))
+
+-- a test that passes on the range keeps it
+filter_all_in : (p : ℕ → Bool) (a n : ℕ) → ((i : ℕ) → a ≤ i → i < a + n → p i ≡ true) → filter p (range_with_len a n) ≡ range_with_len a n
+filter_all_in p a zero all = refl
+filter_all_in p a (suc n) all =
+    rw (all a (omega arith) (omega arith)) (ap (λ xs. a ∷ xs) (filter_all_in p (a + 1) n (λ i low high. all i (omega arith) (omega arith))))
+
+-- z is the first of the range that passes p, and q is p without z
+filter_first : (p q : ℕ → Bool) (z a n : ℕ) → a ≤ z → z < a + n → p z ≡ true → ((i : ℕ) → a ≤ i → i < z → p i ≡ false) → ((i : ℕ) → a ≤ i → i < a + n → q i ≡ (p i && not (i == z))) → filter p (range_with_len a n) ≡ z ∷ filter q (range_with_len a n)
+filter_first p q z a zero low high one none without = absurd (omega arith)
+filter_first p q z a (suc n) low high one none without = ⊎_elim
+    (λ same.
+      let p_here : p a ≡ true = ap p same ∙ one in
+      let q_here : q a ≡ false = let w = without a (omega arith) (omega arith) in grind (arith, nat_tests) in
+      let rest : filter p (range_with_len (a + 1) n) ≡ filter q (range_with_len (a + 1) n) =
+          filter_agree_in p q (a + 1) n (λ i l h. let w = without i (omega arith) (omega arith) in let apart : i ≢ z = omega arith in grind (arith, nat_tests)) in
+      rw (p_here, q_here, rest, same) refl)
+    (λ apart.
+      let p_here : p a ≡ false = none a (omega arith) (omega arith) in
+      let q_here : q a ≡ false = let w = without a (omega arith) (omega arith) in grind (arith, nat_tests) in
+      rw (p_here, q_here) (filter_first p q z (a + 1) n (omega arith) (omega arith) one (λ i l h. none i (omega arith) h) (λ i l h. without i (omega arith) (omega arith))))
+    (cases_eq a z)
+
+-- z is the last of the range that passes p, and q is p without z
+filter_last : (p q : ℕ → Bool) (z a n : ℕ) → a ≤ z → z < a + n → p z ≡ true → ((i : ℕ) → z < i → i < a + n → p i ≡ false) → ((i : ℕ) → a ≤ i → i < a + n → q i ≡ (p i && not (i == z))) → filter p (range_with_len a n) ≡ filter q (range_with_len a n) ++ z ∷ []
+filter_last p q z a zero low high one none without = absurd (omega arith)
+filter_last p q z a (suc n) low high one none without = ⊎_elim
+    (λ same.
+      let p_here : p a ≡ true = ap p same ∙ one in
+      let q_here : q a ≡ false = let w = without a (omega arith) (omega arith) in grind (arith, nat_tests) in
+      let p_rest : filter p (range_with_len (a + 1) n) ≡ [] = filter_none_in p (a + 1) n (λ i l h. none i (omega arith) (omega arith)) in
+      let q_rest : filter q (range_with_len (a + 1) n) ≡ [] = filter_none_in q (a + 1) n (λ i l h. let w = without i (omega arith) (omega arith) in let e = none i (omega arith) (omega arith) in grind (arith, nat_tests)) in
+      rw (p_here, q_here, p_rest, q_rest, same) refl)
+    (λ apart.
+      let agree : q a ≡ p a = let w = without a (omega arith) (omega arith) in grind (arith, nat_tests) in
+      let rest : filter p (range_with_len (a + 1) n) ≡ filter q (range_with_len (a + 1) n) ++ z ∷ [] = filter_last p q z (a + 1) n (omega arith) (omega arith) one (λ i l h. none i l (omega arith)) (λ i l h. without i (omega arith) (omega arith)) in
+      rw (agree, rest) (elim (p a) as (λ b. cond b (a ∷ (filter q (range_with_len (a + 1) n) ++ z ∷ [])) (filter q (range_with_len (a + 1) n) ++ z ∷ []) ≡ cond b (a ∷ filter q (range_with_len (a + 1) n)) (filter q (range_with_len (a + 1) n)) ++ z ∷ []) [ true ↦ refl | false ↦ refl ]))
+    (cases_eq a z)
+
+any_cond : (b : Bool) (x q : ℕ) (xs : List ℕ) → list_any (λ y. nat_eq y q) (cond b (x ∷ xs) xs) ≡ ((b && nat_eq x q) || list_any (λ y. nat_eq y q) xs)
+any_cond true x q xs = refl
+any_cond false x q xs = refl
+
+-- what is kept of a range
+any_in : (p : ℕ → Bool) (q a n : ℕ) → list_any (λ y. nat_eq y q) (filter p (range_with_len a n)) ≡ (leb a q && (ltb q (a + n) && p q))
+any_in p q a zero = grind (arith, nat_tests)
+any_in p q a (suc n) =
+    any_cond (p a) a q (filter p (range_with_len (a + 1) n))
+    ∙ ap (λ r. (p a && nat_eq a q) || r) (any_in p q (a + 1) n)
+    ∙ ⊎_elim
+      (λ same. let e : p a ≡ p q = ap p same in rw e (in_range_here (p q) q a n same))
+      (λ apart. in_range_past (p a) (p q) q a n apart)
+      (cases_eq a q)
+  where
+    in_range_here : (b : Bool) (q a n : ℕ) → a ≡ q → ((b && nat_eq a q) || (leb (a + 1) q && (ltb q (a + 1 + n) && b))) ≡ (leb a q && (ltb q (a + suc n) && b))
+    in_range_here true q a n e = grind (arith, nat_tests)
+    in_range_here false q a n e = grind (arith, nat_tests)
+
+    in_range_past : (b c : Bool) (q a n : ℕ) → a ≢ q → ((b && nat_eq a q) || (leb (a + 1) q && (ltb q (a + 1 + n) && c))) ≡ (leb a q && (ltb q (a + suc n) && c))
+    in_range_past true c q a n e = grind (arith, nat_tests)
+    in_range_past false c q a n e = grind (arith, nat_tests)
+
+-- ---- the set of a number
+
+-- the members are the places below the width whose digit is 1
+pub contains-set_of : (w n q : ℕ) → contains (set_of w n) q ≡ (nat_lt q w && is_one n q)
+unfolding members_of
+contains-set_of w n q = contains-from_list_nat (members_of w n) q ∙ any_in (is_one n) q 0 w ∙ grind (arith, nat_tests)
+
+same_members : (w : ℕ) (n : ℕ) (s : FinSet nat_cmp) → ((q : ℕ) → contains s q ≡ (nat_lt q w && is_one n q)) → set_of w n ≡ s
+same_members w n s is = same_set nat_cmp_total nat_cmp-IsAntisymmetric (set_of w n) s (λ q. contains-set_of w n q ∙ sym (is q))
+
+-- i is put in
+pub set_of-insert : (w n m i : ℕ) → i < w → ((q : ℕ) → q < w → is_one m q ≡ (is_one n q || (q == i))) → set_of w m ≡ insert (set_of w n) i
+set_of-insert w n m i within digits =
+    same_members w m (insert (set_of w n) i) (λ q.
+      let c : contains (insert (set_of w n) i) q ≡ (eq_by_cmp nat_cmp q i || contains (set_of w n) q) = contains-insert nat_cmp_total (set_of w n) i q in
+      let t : eq_by_cmp nat_cmp q i ≡ nat_eq q i = unsigned_tied q i in
+      let old : contains (set_of w n) q ≡ (nat_lt q w && is_one n q) = contains-set_of w n q in
+      ⊎_elim
+        (λ below. let d = digits q below in grind (arith, nat_tests))
+        (λ above. grind (arith, nat_tests))
+        (cases_lt q w))
+
+-- i is taken out
+pub set_of-remove : (w n m i : ℕ) → ((q : ℕ) → q < w → is_one m q ≡ (is_one n q && not (q == i))) → set_of w m ≡ remove (set_of w n) i
+set_of-remove w n m i digits =
+    same_members w m (remove (set_of w n) i) (λ q.
+      let c : contains (remove (set_of w n) i) q ≡ (not (eq_by_cmp nat_cmp q i) && contains (set_of w n) q) = contains-remove nat_cmp_total (set_of w n) i q in
+      let t : eq_by_cmp nat_cmp q i ≡ nat_eq q i = unsigned_tied q i in
+      let old : contains (set_of w n) q ≡ (nat_lt q w && is_one n q) = contains-set_of w n q in
+      ⊎_elim
+        (λ below. let d = digits q below in grind (arith, nat_tests))
+        (λ above. grind (arith, nat_tests))
+        (cases_lt q w))
+
+-- ---- the list of members
+
+range_append : (a m n : ℕ) → range_with_len a (m + n) ≡ range_with_len a m ++ range_with_len (a + m) n
+range_append a zero n = rw (zero-add, add-zero) refl
+range_append a (suc m) n =
+    let e : suc m + n ≡ suc (m + n) = omega arith in
+    let f : a + 1 + m ≡ a + suc m = omega arith in
+    rw e (ap (λ xs. a ∷ xs) (range_append (a + 1) m n ∙ ap (λ b. range_with_len (a + 1) m ++ range_with_len b n) f))
+
+pub members_of-same : (w m n : ℕ) → SameDigits w m n → members_of w m ≡ members_of w n
+unfolding members_of
+members_of-same w m n same = filter_agree_in (is_one m) (is_one n) 0 w (λ i _ h. same i (omega arith))
+
+pub members_of-none : (w n : ℕ) → ((i : ℕ) → i < w → is_one n i ≡ false) → members_of w n ≡ []
+unfolding members_of
+members_of-none w n none = filter_none_in (is_one n) 0 w (λ i _ h. none i (omega arith))
+
+digit_from_set : (w m n i : ℕ) → members_of w m ≡ members_of w n → i < w → is_one m i ≡ is_one n i
+digit_from_set w m n i same below =
+    let s : set_of w m ≡ set_of w n = ap from_list same in
+    let e : contains (set_of w m) i ≡ contains (set_of w n) i = ap (λ t. contains t i) s in
+    let p = contains-set_of w m i in
+    let q = contains-set_of w n i in
+    grind (arith, nat_tests)
+
+pub same_from_members : (w m n : ℕ) → members_of w m ≡ members_of w n → SameDigits w m n
+same_from_members w m n same i below = digit_from_set w m n i same below
+
+pub none_from_members : (w n i : ℕ) → members_of w n ≡ [] → i < w → is_one n i ≡ false
+none_from_members w n i none below =
+    let e : contains (set_of w n) i ≡ contains (from_list {R = nat_cmp} []) i = ap (λ t. contains (from_list {R = nat_cmp} t) i) none in
+    let z : contains (from_list {R = nat_cmp} []) i ≡ false = contains-from_list_nat [] i in
+    let p = contains-set_of w n i in
+    grind (arith, nat_tests)
+
+pub rising-members_of : (w n : ℕ) → IsStrictlyIncreasing (members_of w n)
+unfolding members_of
+rising-members_of w n =
+    IsStrictlyIncreasing-filter (is_one n) (range_with_len 0 w) (λ k h.
+      let l : length (range_with_len 0 w) ≡ w = length-range_with_len 0 w in
+      omega (arith, get_or-range_with_len 0 w k 0 (omega arith), get_or-range_with_len 0 w (k + 1) 0 (omega arith)))
+
+-- the numbers from lo to below hi
+pub members_of-range : (w n lo hi : ℕ) → lo ≤ hi → hi ≤ w → ((i : ℕ) → i < w → is_one n i ≡ (nat_lt i hi && not (nat_lt i lo))) → members_of w n ≡ range_with_len lo (hi - lo)
+unfolding members_of
+members_of-range w n lo hi p q digits =
+    let e : w ≡ lo + ((hi - lo) + (w - hi)) = omega arith in
+    let start : 0 + lo ≡ lo = omega arith in
+    let end : lo + (hi - lo) ≡ hi = omega arith in
+    let cut : range_with_len 0 w ≡ range_with_len 0 lo ++ (range_with_len lo (hi - lo) ++ range_with_len hi (w - hi)) =
+        ap (range_with_len 0) e ∙ range_append 0 lo _
+        ∙ ap (λ xs. range_with_len 0 lo ++ xs) (ap (λ a. range_with_len a ((hi - lo) + (w - hi))) start ∙ range_append lo (hi - lo) (w - hi) ∙ ap (λ a. range_with_len lo (hi - lo) ++ range_with_len a (w - hi)) end)
+    in
+    let low : filter (is_one n) (range_with_len 0 lo) ≡ [] = filter_none_in (is_one n) 0 lo (λ i _ h. let d = digits i (omega arith) in grind (arith, nat_tests)) in
+    let mid : filter (is_one n) (range_with_len lo (hi - lo)) ≡ range_with_len lo (hi - lo) = filter_all_in (is_one n) lo (hi - lo) (λ i l h. let d = digits i (omega arith) in grind (arith, nat_tests)) in
+    let high : filter (is_one n) (range_with_len hi (w - hi)) ≡ [] = filter_none_in (is_one n) hi (w - hi) (λ i l h. let d = digits i (omega arith) in grind (arith, nat_tests)) in
+    rw (cut, filter-append, filter-append, low, mid, high) (append-nil _)
+
+-- ---- the least and the greatest member
+
+-- what is true of each place whose digit is 1 is true of each member
+pub All-members_of : (P : ℕ → Type 0) (w n : ℕ) → ((i : ℕ) → i < w → is_one n i ≡ true → P i) → All P (members_of w n)
+unfolding members_of
+All-members_of P w n each = go 0 w (λ i low high one. each i (omega arith) one)
+  where
+    go : (a m : ℕ) → ((i : ℕ) → a ≤ i → i < a + m → is_one n i ≡ true → P i) → All P (filter (is_one n) (range_with_len a m))
+    go a zero each = All-nil P
+    go a (suc m) each =
+        let rest : All P (filter (is_one n) (range_with_len (a + 1) m)) = go (a + 1) m (λ i low high one. each i (omega arith) (omega arith) one) in
+        ⊎_elim
+          (λ yes. rw yes (All-cons P a _ (each a (omega arith) (omega arith) yes) rest))
+          (λ no. rw no rest)
+          (cases_Bool (is_one n a))
+
+-- z, the place of the lowest digit 1, is taken out at the front
+pub members_of-pop_low : (w n m z : ℕ) → IsLowZeros w n z → z < w → ((i : ℕ) → i < w → is_one m i ≡ (is_one n i && not (i == z))) → members_of w n ≡ z ∷ members_of w m
+unfolding members_of
+members_of-pop_low w n m z low within without =
+    filter_first (is_one n) (is_one m) z 0 w (omega arith) (omega arith) (low.one within) (λ i _ h. low.zeros i h) (λ i _ h. without i (omega arith))
+
+-- z, the place of the highest digit 1, is taken out at the back
+pub members_of-pop_high : (w n m z y : ℕ) → IsHighZeros w n y → y + z + 1 ≡ w → ((i : ℕ) → i < w → is_one m i ≡ (is_one n i && not (i == z))) → members_of w n ≡ members_of w m ++ z ∷ []
+unfolding members_of
+members_of-pop_high w n m z y high at without =
+    filter_last (is_one n) (is_one m) z 0 w (omega arith) (omega arith) (high.one z (omega arith)) (λ i l h. high.zeros i (omega arith) (omega arith)) (λ i _ h. without i (omega arith))
+
+-- ---- how many members there are
+
+range_push : (a n : ℕ) → range_with_len a (suc n) ≡ range_with_len a n ++ (a + n) ∷ []
+range_push a n = let e : suc n ≡ n + 1 = omega arith in ap (range_with_len a) e ∙ range_append a n 1
+
+pub count-members_of : (w n : ℕ) → n < 2 ^ w → ones n ≡ length (members_of w n)
+unfolding members_of
+count-members_of zero n fits = let e : n ≡ 0 = omega arith in ap ones e ∙ ones-ones 0
+count-members_of (suc w) n fits =
+    let twice : 2 ^ suc w ≡ 2 ^ w * 2 = pow-suc 2 w in
+    let some : 0 < 2 ^ w = pow_pos w in
+    let high : n / 2 ^ w < 2 = div_below n (2 ^ w) 2 some (omega arith) in
+    let low : n % 2 ^ w < 2 ^ w = mod_below n (2 ^ w) some in
+    let split : n / 2 ^ w * 2 ^ w + n % 2 ^ w ≡ n = shr_split n w in
+    let counts : ones n ≡ ones (n / 2 ^ w) + ones (n % 2 ^ w) = ap ones (sym split) ∙ ones_cat w (n / 2 ^ w) (n % 2 ^ w) low in
+    let rest : ones (n % 2 ^ w) ≡ length (filter (is_one (n % 2 ^ w)) (range_with_len 0 w)) = count-members_of w (n % 2 ^ w) low in
+    let same : filter (is_one (n % 2 ^ w)) (range_with_len 0 w) ≡ filter (is_one n) (range_with_len 0 w) =
+        filter_agree_in (is_one (n % 2 ^ w)) (is_one n) 0 w (λ i _ h. is_one-mod n w i (omega arith)) in
+    let start : 0 + w ≡ w = omega arith in
+    let pushed : filter (is_one n) (range_with_len 0 (suc w)) ≡ filter (is_one n) (range_with_len 0 w) ++ filter (is_one n) (w ∷ []) =
+        ap (filter (is_one n)) (range_push 0 w ∙ ap (λ k. range_with_len 0 w ++ k ∷ []) start) ∙ filter-append (is_one n) (range_with_len 0 w) (w ∷ []) in
+    let long : length (filter (is_one n) (range_with_len 0 (suc w))) ≡ length (filter (is_one n) (range_with_len 0 w)) + length (filter (is_one n) (w ∷ [])) =
+        ap length pushed ∙ length-append (filter (is_one n) (range_with_len 0 w)) (filter (is_one n) (w ∷ [])) in
+    let below : ones (n % 2 ^ w) ≡ length (filter (is_one n) (range_with_len 0 w)) = rest ∙ ap length same in
+    let top : ones (n / 2 ^ w) ≡ length (filter (is_one n) (w ∷ [])) = ⊎_elim
+        (λ (one, digit). rw (one, digit) (ones-ones 1))
+        (λ (none, digit). rw (none, digit) (ones-ones 0))
+        (top_digit n w high) in
+    omega arith
+
+-- ---- which numbers are members
+
+pub member : (w n k : ℕ) → k < w → is_one n k ≡ true → Contains (members_of w n) k
+unfolding members_of
+member w n k within one =
+    let start : 0 + w ≡ w = omega arith in
+    let any : list_any (λ y. nat_eq y k) (filter (is_one n) (range_with_len 0 w)) ≡ (leb 0 k && (ltb k (0 + w) && is_one n k)) = any_in (is_one n) k 0 w in
+    Contains-from_any {eq = λ x y. nat_eq y x} (λ x y e. grind (arith, nat_tests)) k (filter (is_one n) (range_with_len 0 w)) (grind (arith, nat_tests))
+
+pub Contains-members_of : (w n k : ℕ) → (Contains (members_of w n) k ↔ ((k < w) × (is_one n k ≡ true)))
+Contains-members_of w n k =
+    (λ has. All-contains (λ i. (i < w) × (is_one n i ≡ true)) (members_of w n) k (All-members_of (λ i. (i < w) × (is_one n i ≡ true)) w n (λ i h one. (h, one))) has,
+     λ (h, one). member w n k h one)
+
+pub least_member : (w n z : ℕ) → IsLowZeros w n z → z < w → Contains (members_of w n) z × All (λ k. z ≤ k) (members_of w n)
+least_member w n z low within =
+    (member w n z within (low.one within), All-members_of (λ k. z ≤ k) w n (λ i h one. ⊎_elim (λ below. let none = low.zeros i below in absurd (cc)) (λ above. above) (cases_lt i z)))
+
+pub greatest_member : (w n y z : ℕ) → IsHighZeros w n y → z + y + 1 ≡ w → Contains (members_of w n) z × All (λ k. k ≤ z) (members_of w n)
+greatest_member w n y z high at =
+    (member w n z (omega arith) (high.one z at), All-members_of (λ k. k ≤ z) w n (λ i h one. ⊎_elim (λ above. let none = high.zeros i (omega arith) h in absurd (cc)) (λ below. below) (cases_lt z i)))
+
+-- a set with a member is not empty
+pub some_member : (w n z : ℕ) → Contains (members_of w n) z → members_of w n ≡ [] → ⊥
+some_member w n z has none = let one = (Contains-members_of w n z).0 has in let zero' = none_from_members w n z none one.0 in absurd (cc)

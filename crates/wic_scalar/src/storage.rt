@@ -1,0 +1,370 @@
+//! The integers that hold a set.
+ghost use Rattle.std.specs.Prelude.{◌≡◌, ◌==◌, ◌&&◌, ◌||◌, ℕ, ◌<◌, ◌≤◌, ◌↔◌, IsTrue, false, length, nat_lt, not};
+ghost use Rattle.wic_scalar.specs.Digits.{is_one, SameDigits, IsLowZeros, IsHighZeros};
+ghost use Rattle.wic_scalar.specs.Scalar.{members_of};
+
+/// An unsigned integer that holds a set, by its digits in base two: digit 0 is the lowest.
+///
+/// Each law is a clause of a call, about the values that are passed. Port of
+/// `cranelift_bitset::scalar::ScalarBitSetStorage`, whose operators are named calls here, so that
+/// each has its law.
+pub trait ScalarBitSetStorage: Copy {
+    /// How many digits each value has.
+    ghost width: { ℕ };
+
+    /// The number that a value is.
+    ghost number: { Self → ℕ };
+
+    /// How many digits each value has.
+    fn width() -> u8
+        ensures value { result ≡ width }
+        ensures positive { 0 < width };
+
+    /// The number with no digit 1.
+    fn zero() -> Self
+        ensures { (k : ℕ) → is_one (number result) k ≡ false };
+
+    /// The number whose digit `i` alone is 1.
+    fn bit(i: u8) -> Self
+        requires { i < width }
+        ensures { (k : ℕ) → is_one (number result) k ≡ (k == i) };
+
+    /// The number whose digits below `n` alone are 1.
+    fn below(n: u8) -> Self
+        requires { n ≤ width }
+        ensures { (k : ℕ) → is_one (number result) k ≡ nat_lt k n };
+
+    /// Digit by digit, 1 where both are.
+    fn bit_and(self, other: Self) -> Self
+        ensures { (k : ℕ) → is_one (number result) k ≡ (is_one (number self) k && is_one (number other) k) };
+
+    /// Digit by digit, 1 where either is.
+    fn bit_or(self, other: Self) -> Self
+        ensures { (k : ℕ) → is_one (number result) k ≡ (is_one (number self) k || is_one (number other) k) };
+
+    /// Digit by digit, 1 where it was 0.
+    fn bit_not(self) -> Self
+        ensures { (k : ℕ) → k < width → is_one (number result) k ≡ not (is_one (number self) k) };
+
+    /// Whether the two have the same digits.
+    fn is_equal(self, other: Self) -> bool
+        ensures { IsTrue result ↔ SameDigits width (number self) (number other) };
+
+    /// How many digits 0 stand above the highest digit 1: the width for 0.
+    fn leading_zeros(self) -> u8
+        ensures { IsHighZeros width (number self) result };
+
+    /// How many digits 0 stand below the lowest digit 1: the width for 0.
+    fn trailing_zeros(self) -> u8
+        ensures { IsLowZeros width (number self) result };
+
+    /// How many digits are 1.
+    fn count_ones(self) -> u8
+        ensures { result ≡ length (members_of width (number self)) };
+}
+
+#[tactic(auto, using(crate::proofs::Widths::laws_8))]
+impl ScalarBitSetStorage for u8 {
+    ghost width = { 8 };
+
+    ghost number = { λ n. n };
+
+    fn width() -> u8 {
+        8
+    }
+
+    fn zero() -> u8 {
+        0
+    }
+
+    fn bit(i: u8) -> u8 {
+        1 << i
+    }
+
+    fn below(n: u8) -> u8 {
+        if n == 0 { 0 } else { u8::MAX >> (8 - n) }
+    }
+
+    fn bit_and(self, other: u8) -> u8 {
+        self & other
+    }
+
+    fn bit_or(self, other: u8) -> u8 {
+        self | other
+    }
+
+    fn bit_not(self) -> u8 {
+        !self
+    }
+
+    fn is_equal(self, other: u8) -> bool {
+        self == other
+    }
+
+    fn leading_zeros(self) -> u8 {
+        u8::leading_zeros(self) as u8
+    }
+
+    fn trailing_zeros(self) -> u8 {
+        u8::trailing_zeros(self) as u8
+    }
+
+    fn count_ones(self) -> u8 {
+        u8::count_ones(self) as u8
+    }
+}
+
+#[tactic(auto, using(crate::proofs::Widths::laws_16))]
+impl ScalarBitSetStorage for u16 {
+    ghost width = { 16 };
+
+    ghost number = { λ n. n };
+
+    fn width() -> u8 {
+        16
+    }
+
+    fn zero() -> u16 {
+        0
+    }
+
+    fn bit(i: u8) -> u16 {
+        1 << i
+    }
+
+    fn below(n: u8) -> u16 {
+        if n == 0 { 0 } else { u16::MAX >> (16 - n) }
+    }
+
+    fn bit_and(self, other: u16) -> u16 {
+        self & other
+    }
+
+    fn bit_or(self, other: u16) -> u16 {
+        self | other
+    }
+
+    fn bit_not(self) -> u16 {
+        !self
+    }
+
+    fn is_equal(self, other: u16) -> bool {
+        self == other
+    }
+
+    fn leading_zeros(self) -> u8 {
+        u16::leading_zeros(self) as u8
+    }
+
+    fn trailing_zeros(self) -> u8 {
+        u16::trailing_zeros(self) as u8
+    }
+
+    fn count_ones(self) -> u8 {
+        u16::count_ones(self) as u8
+    }
+}
+
+#[tactic(auto, using(crate::proofs::Widths::laws_32))]
+impl ScalarBitSetStorage for u32 {
+    ghost width = { 32 };
+
+    ghost number = { λ n. n };
+
+    fn width() -> u8 {
+        32
+    }
+
+    fn zero() -> u32 {
+        0
+    }
+
+    fn bit(i: u8) -> u32 {
+        1 << i
+    }
+
+    fn below(n: u8) -> u32 {
+        if n == 0 { 0 } else { u32::MAX >> (32 - n) }
+    }
+
+    fn bit_and(self, other: u32) -> u32 {
+        self & other
+    }
+
+    fn bit_or(self, other: u32) -> u32 {
+        self | other
+    }
+
+    fn bit_not(self) -> u32 {
+        !self
+    }
+
+    fn is_equal(self, other: u32) -> bool {
+        self == other
+    }
+
+    fn leading_zeros(self) -> u8 {
+        u32::leading_zeros(self) as u8
+    }
+
+    fn trailing_zeros(self) -> u8 {
+        u32::trailing_zeros(self) as u8
+    }
+
+    fn count_ones(self) -> u8 {
+        u32::count_ones(self) as u8
+    }
+}
+
+#[tactic(auto, using(crate::proofs::Widths::laws_64))]
+impl ScalarBitSetStorage for u64 {
+    ghost width = { 64 };
+
+    ghost number = { λ n. n };
+
+    fn width() -> u8 {
+        64
+    }
+
+    fn zero() -> u64 {
+        0
+    }
+
+    fn bit(i: u8) -> u64 {
+        1 << i
+    }
+
+    fn below(n: u8) -> u64 {
+        if n == 0 { 0 } else { u64::MAX >> (64 - n) }
+    }
+
+    fn bit_and(self, other: u64) -> u64 {
+        self & other
+    }
+
+    fn bit_or(self, other: u64) -> u64 {
+        self | other
+    }
+
+    fn bit_not(self) -> u64 {
+        !self
+    }
+
+    fn is_equal(self, other: u64) -> bool {
+        self == other
+    }
+
+    fn leading_zeros(self) -> u8 {
+        u64::leading_zeros(self) as u8
+    }
+
+    fn trailing_zeros(self) -> u8 {
+        u64::trailing_zeros(self) as u8
+    }
+
+    fn count_ones(self) -> u8 {
+        u64::count_ones(self) as u8
+    }
+}
+
+#[tactic(auto, using(crate::proofs::Widths::laws_128))]
+impl ScalarBitSetStorage for u128 {
+    ghost width = { 128 };
+
+    ghost number = { λ n. n };
+
+    fn width() -> u8 {
+        128
+    }
+
+    fn zero() -> u128 {
+        0
+    }
+
+    fn bit(i: u8) -> u128 {
+        1 << i
+    }
+
+    fn below(n: u8) -> u128 {
+        if n == 0 { 0 } else { u128::MAX >> (128 - n) }
+    }
+
+    fn bit_and(self, other: u128) -> u128 {
+        self & other
+    }
+
+    fn bit_or(self, other: u128) -> u128 {
+        self | other
+    }
+
+    fn bit_not(self) -> u128 {
+        !self
+    }
+
+    fn is_equal(self, other: u128) -> bool {
+        self == other
+    }
+
+    fn leading_zeros(self) -> u8 {
+        u128::leading_zeros(self) as u8
+    }
+
+    fn trailing_zeros(self) -> u8 {
+        u128::trailing_zeros(self) as u8
+    }
+
+    fn count_ones(self) -> u8 {
+        u128::count_ones(self) as u8
+    }
+}
+
+#[tactic(auto, using(crate::proofs::Widths::laws_64))]
+impl ScalarBitSetStorage for usize {
+    ghost width = { 64 };
+
+    ghost number = { λ n. n };
+
+    fn width() -> u8 {
+        64
+    }
+
+    fn zero() -> usize {
+        0
+    }
+
+    fn bit(i: u8) -> usize {
+        1 << i
+    }
+
+    fn below(n: u8) -> usize {
+        if n == 0 { 0 } else { usize::MAX >> (64 - n) }
+    }
+
+    fn bit_and(self, other: usize) -> usize {
+        self & other
+    }
+
+    fn bit_or(self, other: usize) -> usize {
+        self | other
+    }
+
+    fn bit_not(self) -> usize {
+        !self
+    }
+
+    fn is_equal(self, other: usize) -> bool {
+        self == other
+    }
+
+    fn leading_zeros(self) -> u8 {
+        usize::leading_zeros(self) as u8
+    }
+
+    fn trailing_zeros(self) -> u8 {
+        usize::trailing_zeros(self) as u8
+    }
+
+    fn count_ones(self) -> u8 {
+        usize::count_ones(self) as u8
+    }
+}
