@@ -1,13 +1,13 @@
 -- Lemmas on the digits of a number.
-use Rattle.std.proofs.Common.{⊎_elim, ◌≡◌, ℕ, zero, suc, ◌+◌, ◌-◌, ◌*◌, ◌^◌, ◌/◌, ◌%◌, ◌<◌, ◌≤◌, min, max, Bool, true, false, not, ◌&&◌, ◌||◌, ◌⊎◌, eqb, ltb, refl, sym, ap, subst, ◌∙◌, inl, inr, arith, ◌↔◌, ◌≢◌, bit_and, bit_or, add-one, IsTrue, T}
+use Rattle.std.proofs.Common.{⊎_elim, ◌≡◌, ℕ, zero, suc, ◌+◌, ◌-◌, ◌*◌, ◌^◌, ◌/◌, ◌%◌, ◌<◌, ◌≤◌, true, false, not, ◌&&◌, ◌||◌, ◌⊎◌, refl, sym, ap, subst, ◌∙◌, inl, inr, arith, ◌↔◌, bit_and, bit_or, IsTrue}
 use Rattle.std.specs.Prelude.{◌==◌, nat_lt, nat_eq}
 use Rattle.std.specs.Int.{bit_at}
-use Rattle.std.proofs.lemmas.Bool.{eq-eqb, eqb-true, ne_eqb, false≢true, lt-ltb, le-ltb, cases_eq, cases_lt}
+use Rattle.std.proofs.lemmas.Bool.{cases_eq, cases_lt}
 use Rattle.std.proofs.lemmas.Bool.Decides.{nat_tests}
 use Rattle.std.proofs.lemmas.Nat.{and-not, one_shl, pow_below, pow_pos, leading_top, le-div, div_below, shr_split}
 use Rattle.std.proofs.Math.Nat.{eq-zero-or-pos, pow-suc}
 use Rattle.std.proofs.lemmas.Nat.Bits.{bit_at-zero, bit_at_and, bit_at_or, bit_at-pow_same, bit_at-pow_other, bit_at_ones, bit_at_ones_above, bit_at-lt, same_from_bits_below, and_pow, ones_shr, bit_at-suc, bit_at_lowest, bit_at_above, bit_at_cat_low}
-use lib.Count.{count_leading_zeros, count_trailing_zeros, under}
+use lib.Count.{count_leading_zeros, count_trailing_zeros}
 use Rattle.wic_scalar.specs.Digits.{is_one, SameDigits, IsLowZeros, IsHighZeros}
 
 -- a digit is 1 or 0
@@ -28,9 +28,9 @@ is_one-bit_or a b i = let e = bit_at_or a b i in grind (arith, digit_cases (bit_
 pub is_one-pow : (w i k : ℕ) → i < w → is_one (1 * 2 ^ i % 2 ^ w) k ≡ (k == i)
 is_one-pow w i k h =
     rw (one_shl i w h) (⊎_elim
-      (λ same. let at : bit_at (2 ^ i) k ≡ 1 = ap (bit_at (2 ^ i)) same ∙ bit_at-pow_same i in grind (arith, nat_tests, digit_cases (2 ^ i) k))
-      (λ apart. let at : bit_at (2 ^ i) k ≡ 0 = bit_at-pow_other i k apart in grind (arith, nat_tests, digit_cases (2 ^ i) k))
-      (cases_eq k i))
+    (λ same. let at : bit_at (2 ^ i) k ≡ 1 = ap (bit_at (2 ^ i)) same ∙ bit_at-pow_same i in grind (arith, nat_tests, digit_cases (2 ^ i) k))
+    (λ apart. let at : bit_at (2 ^ i) k ≡ 0 = bit_at-pow_other i k apart in grind (arith, nat_tests, digit_cases (2 ^ i) k))
+    (cases_eq k i))
 
 -- the greatest number of width w, shifted down until n digits are left
 pub is_one-ones : (w n k : ℕ) → n ≤ w → is_one ((2 ^ w - 1) / 2 ^ (w - n)) k ≡ nat_lt k n
@@ -38,9 +38,9 @@ is_one-ones w n k h =
     let left : w - (w - n) ≡ n = omega arith in
     let e : (2 ^ w - 1) / 2 ^ (w - n) ≡ 2 ^ n - 1 = ones_shr w (w - n) (omega arith) ∙ ap (λ m. 2 ^ m - 1) left in
     rw e (⊎_elim
-      (λ below. let at : bit_at (2 ^ n - 1) k ≡ 1 = bit_at_ones n k below in grind (arith, nat_tests, digit_cases (2 ^ n - 1) k))
-      (λ above. let at : bit_at (2 ^ n - 1) k ≡ 0 = bit_at_ones_above n k above in grind (arith, nat_tests, digit_cases (2 ^ n - 1) k))
-      (cases_lt k n))
+    (λ below. let at : bit_at (2 ^ n - 1) k ≡ 1 = bit_at_ones n k below in grind (arith, nat_tests, digit_cases (2 ^ n - 1) k))
+    (λ above. let at : bit_at (2 ^ n - 1) k ≡ 0 = bit_at_ones_above n k above in grind (arith, nat_tests, digit_cases (2 ^ n - 1) k))
+    (cases_lt k n))
 
 -- a number and its complement have one digit 1 between them at each place
 pub is_one-complement : (w n i : ℕ) → n < 2 ^ w → i < w → is_one (2 ^ w - 1 - n) i ≡ not (is_one n i)
@@ -50,15 +50,15 @@ is_one-complement w n i fits below =
     let low : bit_and n (2 ^ i) ≡ bit_at n i * 2 ^ i = and_pow n i in
     let some : 0 < 2 ^ i = pow_pos i in
     ⊎_elim
-      (λ (p, p'). ⊎_elim
-        (λ (q, q'). absurd (let high' = (rw p at high) in let low' = (rw q at low) in omega arith))
-        (λ (q, q'). rw (p', q'))
-        (digit_cases n i))
-      (λ (p, p'). ⊎_elim
-        (λ (q, q'). rw (p', q'))
-        (λ (q, q'). absurd (let high' = (rw p at high) in let low' = (rw q at low) in omega arith))
-        (digit_cases n i))
-      (digit_cases (2 ^ w - 1 - n) i)
+    (λ (p, p'). ⊎_elim
+    (λ (q, q'). absurd (let high' = (rw p at high) in let low' = (rw q at low) in omega arith))
+    (λ (q, q'). rw (p', q'))
+    (digit_cases n i))
+    (λ (p, p'). ⊎_elim
+    (λ (q, q'). rw (p', q'))
+    (λ (q, q'). absurd (let high' = (rw p at high) in let low' = (rw q at low) in omega arith))
+    (digit_cases n i))
+    (digit_cases (2 ^ w - 1 - n) i)
 
 pub same_from_digits : (w a b : ℕ) → a < 2 ^ w → b < 2 ^ w → SameDigits w a b → a ≡ b
 same_from_digits w a b p q same =
@@ -81,7 +81,7 @@ IsLowZeros-count (suc w) n = ⊎_elim
         | zero ↦ λ _. none
         | suc j ↦ λ h. is_one-suc n j ∙ (IsLowZeros-count w (n / 2)).zeros j (omega arith)
       ];
-      one = λ h. is_one-suc n _ ∙ (IsLowZeros-count w (n / 2)).one (omega arith)
+      one = λ h. is_one-suc n _ ∙ (IsLowZeros-count w (n / 2)).one (omega arith);
     }))
     (is_one-lowest n)
 
@@ -105,22 +105,22 @@ pub IsHighZeros-count : (w n : ℕ) → n < 2 ^ w → IsHighZeros w n (count_lea
 IsHighZeros-count w n fits = ⊎_elim
     (λ none. subst (λ m. IsHighZeros w m (count_leading_zeros w m)) (sym none) (IsHighZeros-zero w))
     (λ some.
-      let top = leading_top w n some fits in
-      let place : count_leading_zeros w n + suc top.0 ≡ w = top.1 in
-      let low : 2 ^ top.0 ≤ n = top.2 in
-      let high : n < 2 ^ suc top.0 = top.3 in
-      record {
-        within = omega arith;
-        zeros = λ i above _. let z : bit_at n i ≡ 0 = bit_at_above n (suc top.0) i high (omega arith) in grind (arith, digit_cases n i);
-        one = λ i at. let e : i ≡ top.0 = omega arith in rw e (highest_one n top.0 low high)
-      })
+    let top = leading_top w n some fits in
+    let place : count_leading_zeros w n + suc top.0 ≡ w = top.1 in
+    let low : 2 ^ top.0 ≤ n = top.2 in
+    let high : n < 2 ^ suc top.0 = top.3 in
+    record {
+      within = omega arith;
+      zeros = λ i above _. let z : bit_at n i ≡ 0 = bit_at_above n (suc top.0) i high (omega arith) in grind (arith, digit_cases n i);
+      one = λ i at. let e : i ≡ top.0 = omega arith in rw e (highest_one n top.0 low high);
+    })
     (eq-zero-or-pos n)
 
 pub equal_digits : (w a b : ℕ) → a < 2 ^ w → b < 2 ^ w → (IsTrue (nat_eq a b) ↔ SameDigits w a b)
-equal_digits w a b p q =
-    (λ same i _. let e : a ≡ b = grind (arith, nat_tests) in ap (λ n. is_one n i) e,
-     λ same. let e : a ≡ b = same_from_digits w a b p q same in grind (arith, nat_tests))
-
+equal_digits w a b p q = (
+  λ same i _. let e : a ≡ b = grind (arith, nat_tests) in ap (λ n. is_one n i) e,
+  λ same. let e : a ≡ b = same_from_digits w a b p q same in grind (arith, nat_tests),
+)
 
 -- the lowest k digits
 pub is_one-mod : (n k i : ℕ) → i < k → is_one (n % 2 ^ k) i ≡ is_one n i

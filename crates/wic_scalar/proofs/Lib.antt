@@ -1,3 +1,4 @@
 pub mod DigitLemmas
 pub mod MemberLemmas
+pub mod SetLemmas
 pub mod Widths

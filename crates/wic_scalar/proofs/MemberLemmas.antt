@@ -1,15 +1,14 @@
 -- Lemmas on the members of a number's set.
-use Rattle.std.proofs.Common.{⊎_elim, ◌≡◌, ℕ, zero, suc, ◌+◌, ◌-◌, ◌*◌, ◌^◌, ◌/◌, ◌%◌, ◌<◌, ◌≤◌, Bool, true, false, not, ◌&&◌, ◌||◌, ◌⊎◌, cond, eqb, ltb, leb, List, [], ◌∷◌, ◌++◌, length, get_or, refl, sym, ap, subst, ◌∙◌, inl, inr, arith, ◌↔◌, ◌≢◌, rules, zero-add, add-zero, append-nil, length-append}
+use Rattle.std.proofs.Common.{⊎_elim, ◌≡◌, ℕ, zero, suc, ◌+◌, ◌-◌, ◌*◌, ◌^◌, ◌/◌, ◌%◌, ◌<◌, ◌≤◌, Bool, true, false, not, ◌&&◌, ◌||◌, cond, ltb, leb, List, [], ◌∷◌, ◌++◌, length, refl, sym, ap, ◌∙◌, arith, ◌↔◌, ◌≢◌, zero-add, add-zero, append-nil, length-append}
 use Rattle.std.specs.Prelude.{◌==◌, nat_lt, nat_eq, Contains, All}
 use Rattle.std.specs.List.Sorted.{IsStrictlyIncreasing}
-use Rattle.std.specs.Int.{bit_at}
 use Rattle.std.specs.List.{filter, range_with_len, list_any}
 use Rattle.std.specs.Ordering.{nat_cmp, eq_by_cmp}
 use Rattle.std.specs.Cmp.{nat_cmp_total, unsigned_tied}
-use Rattle.std.specs.FinSet.{FinSet, contains, insert, remove, empty, from_list, same_set, contains-insert, contains-remove, contains-from_list_nat, nat_cmp-IsAntisymmetric}
-use Rattle.std.proofs.lemmas.Bool.{eq-eqb, eqb-true, ne_eqb, false≢true, lt-ltb, le-ltb, cases_eq, cases_lt, cases_Bool}
+use Rattle.std.specs.FinSet.{FinSet, contains, insert, remove, from_list, same_set, contains-insert, contains-remove, contains-from_list_nat, nat_cmp-IsAntisymmetric}
+use Rattle.std.proofs.lemmas.Bool.{cases_eq, cases_lt, cases_Bool, false_from_ne_true, and_parts, ltb-true}
 use Rattle.std.proofs.lemmas.Bool.Decides.{nat_tests}
-use Rattle.std.proofs.lemmas.List.Elements.{All-nil, All-cons, All-contains, filter-append, Contains-push, Contains-from_at}
+use Rattle.std.proofs.lemmas.List.Elements.{All-nil, All-cons, All-contains, filter-append}
 use Rattle.std.proofs.lemmas.Map.Views.{Contains-from_any}
 use Rattle.std.proofs.lemmas.List.Kept.{IsStrictlyIncreasing-filter}
 use Rattle.std.proofs.lemmas.List.FromFn.{length-range_with_len, get_or-range_with_len}
@@ -47,15 +46,15 @@ filter_first : (p q : ℕ → Bool) (z a n : ℕ) → a ≤ z → z < a + n → 
 filter_first p q z a zero low high one none without = absurd (omega arith)
 filter_first p q z a (suc n) low high one none without = ⊎_elim
     (λ same.
-      let p_here : p a ≡ true = ap p same ∙ one in
-      let q_here : q a ≡ false = let w = without a (omega arith) (omega arith) in grind (arith, nat_tests) in
-      let rest : filter p (range_with_len (a + 1) n) ≡ filter q (range_with_len (a + 1) n) =
-          filter_agree_in p q (a + 1) n (λ i l h. let w = without i (omega arith) (omega arith) in let apart : i ≢ z = omega arith in grind (arith, nat_tests)) in
-      rw (p_here, q_here, rest, same) refl)
+    let p_here : p a ≡ true = ap p same ∙ one in
+    let q_here : q a ≡ false = let w = without a (omega arith) (omega arith) in grind (arith, nat_tests) in
+    let rest : filter p (range_with_len (a + 1) n) ≡ filter q (range_with_len (a + 1) n) =
+    filter_agree_in p q (a + 1) n (λ i l h. let w = without i (omega arith) (omega arith) in let apart : i ≢ z = omega arith in grind (arith, nat_tests)) in
+    rw (p_here, q_here, rest, same) refl)
     (λ apart.
-      let p_here : p a ≡ false = none a (omega arith) (omega arith) in
-      let q_here : q a ≡ false = let w = without a (omega arith) (omega arith) in grind (arith, nat_tests) in
-      rw (p_here, q_here) (filter_first p q z (a + 1) n (omega arith) (omega arith) one (λ i l h. none i (omega arith) h) (λ i l h. without i (omega arith) (omega arith))))
+    let p_here : p a ≡ false = none a (omega arith) (omega arith) in
+    let q_here : q a ≡ false = let w = without a (omega arith) (omega arith) in grind (arith, nat_tests) in
+    rw (p_here, q_here) (filter_first p q z (a + 1) n (omega arith) (omega arith) one (λ i l h. none i (omega arith) h) (λ i l h. without i (omega arith) (omega arith))))
     (cases_eq a z)
 
 -- z is the last of the range that passes p, and q is p without z
@@ -63,15 +62,15 @@ filter_last : (p q : ℕ → Bool) (z a n : ℕ) → a ≤ z → z < a + n → p
 filter_last p q z a zero low high one none without = absurd (omega arith)
 filter_last p q z a (suc n) low high one none without = ⊎_elim
     (λ same.
-      let p_here : p a ≡ true = ap p same ∙ one in
-      let q_here : q a ≡ false = let w = without a (omega arith) (omega arith) in grind (arith, nat_tests) in
-      let p_rest : filter p (range_with_len (a + 1) n) ≡ [] = filter_none_in p (a + 1) n (λ i l h. none i (omega arith) (omega arith)) in
-      let q_rest : filter q (range_with_len (a + 1) n) ≡ [] = filter_none_in q (a + 1) n (λ i l h. let w = without i (omega arith) (omega arith) in let e = none i (omega arith) (omega arith) in grind (arith, nat_tests)) in
-      rw (p_here, q_here, p_rest, q_rest, same) refl)
+    let p_here : p a ≡ true = ap p same ∙ one in
+    let q_here : q a ≡ false = let w = without a (omega arith) (omega arith) in grind (arith, nat_tests) in
+    let p_rest : filter p (range_with_len (a + 1) n) ≡ [] = filter_none_in p (a + 1) n (λ i l h. none i (omega arith) (omega arith)) in
+    let q_rest : filter q (range_with_len (a + 1) n) ≡ [] = filter_none_in q (a + 1) n (λ i l h. let w = without i (omega arith) (omega arith) in let e = none i (omega arith) (omega arith) in grind (arith, nat_tests)) in
+    rw (p_here, q_here, p_rest, q_rest, same) refl)
     (λ apart.
-      let agree : q a ≡ p a = let w = without a (omega arith) (omega arith) in grind (arith, nat_tests) in
-      let rest : filter p (range_with_len (a + 1) n) ≡ filter q (range_with_len (a + 1) n) ++ z ∷ [] = filter_last p q z (a + 1) n (omega arith) (omega arith) one (λ i l h. none i l (omega arith)) (λ i l h. without i (omega arith) (omega arith)) in
-      rw (agree, rest) (elim (p a) as (λ b. cond b (a ∷ (filter q (range_with_len (a + 1) n) ++ z ∷ [])) (filter q (range_with_len (a + 1) n) ++ z ∷ []) ≡ cond b (a ∷ filter q (range_with_len (a + 1) n)) (filter q (range_with_len (a + 1) n)) ++ z ∷ []) [ true ↦ refl | false ↦ refl ]))
+    let agree : q a ≡ p a = let w = without a (omega arith) (omega arith) in grind (arith, nat_tests) in
+    let rest : filter p (range_with_len (a + 1) n) ≡ filter q (range_with_len (a + 1) n) ++ z ∷ [] = filter_last p q z (a + 1) n (omega arith) (omega arith) one (λ i l h. none i l (omega arith)) (λ i l h. without i (omega arith) (omega arith)) in
+    rw (agree, rest) (elim (p a) as (λ b. cond b (a ∷ (filter q (range_with_len (a + 1) n) ++ z ∷ [])) (filter q (range_with_len (a + 1) n) ++ z ∷ []) ≡ cond b (a ∷ filter q (range_with_len (a + 1) n)) (filter q (range_with_len (a + 1) n)) ++ z ∷ []) [ true ↦ refl | false ↦ refl ]))
     (cases_eq a z)
 
 any_cond : (b : Bool) (x q : ℕ) (xs : List ℕ) → list_any (λ y. nat_eq y q) (cond b (x ∷ xs) xs) ≡ ((b && nat_eq x q) || list_any (λ y. nat_eq y q) xs)
@@ -85,9 +84,9 @@ any_in p q a (suc n) =
     any_cond (p a) a q (filter p (range_with_len (a + 1) n))
     ∙ ap (λ r. (p a && nat_eq a q) || r) (any_in p q (a + 1) n)
     ∙ ⊎_elim
-      (λ same. let e : p a ≡ p q = ap p same in rw e (in_range_here (p q) q a n same))
-      (λ apart. in_range_past (p a) (p q) q a n apart)
-      (cases_eq a q)
+    (λ same. let e : p a ≡ p q = ap p same in rw e (in_range_here (p q) q a n same))
+    (λ apart. in_range_past (p a) (p q) q a n apart)
+    (cases_eq a q)
   where
     in_range_here : (b : Bool) (q a n : ℕ) → a ≡ q → ((b && nat_eq a q) || (leb (a + 1) q && (ltb q (a + 1 + n) && b))) ≡ (leb a q && (ltb q (a + suc n) && b))
     in_range_here true q a n e = grind (arith, nat_tests)
@@ -111,25 +110,25 @@ same_members w n s is = same_set nat_cmp_total nat_cmp-IsAntisymmetric (set_of w
 pub set_of-insert : (w n m i : ℕ) → i < w → ((q : ℕ) → q < w → is_one m q ≡ (is_one n q || (q == i))) → set_of w m ≡ insert (set_of w n) i
 set_of-insert w n m i within digits =
     same_members w m (insert (set_of w n) i) (λ q.
-      let c : contains (insert (set_of w n) i) q ≡ (eq_by_cmp nat_cmp q i || contains (set_of w n) q) = contains-insert nat_cmp_total (set_of w n) i q in
-      let t : eq_by_cmp nat_cmp q i ≡ nat_eq q i = unsigned_tied q i in
-      let old : contains (set_of w n) q ≡ (nat_lt q w && is_one n q) = contains-set_of w n q in
-      ⊎_elim
-        (λ below. let d = digits q below in grind (arith, nat_tests))
-        (λ above. grind (arith, nat_tests))
-        (cases_lt q w))
+    let c : contains (insert (set_of w n) i) q ≡ (eq_by_cmp nat_cmp q i || contains (set_of w n) q) = contains-insert nat_cmp_total (set_of w n) i q in
+    let t : eq_by_cmp nat_cmp q i ≡ nat_eq q i = unsigned_tied q i in
+    let old : contains (set_of w n) q ≡ (nat_lt q w && is_one n q) = contains-set_of w n q in
+    ⊎_elim
+    (λ below. let d = digits q below in grind (arith, nat_tests))
+    (λ above. grind (arith, nat_tests))
+    (cases_lt q w))
 
 -- i is taken out
 pub set_of-remove : (w n m i : ℕ) → ((q : ℕ) → q < w → is_one m q ≡ (is_one n q && not (q == i))) → set_of w m ≡ remove (set_of w n) i
 set_of-remove w n m i digits =
     same_members w m (remove (set_of w n) i) (λ q.
-      let c : contains (remove (set_of w n) i) q ≡ (not (eq_by_cmp nat_cmp q i) && contains (set_of w n) q) = contains-remove nat_cmp_total (set_of w n) i q in
-      let t : eq_by_cmp nat_cmp q i ≡ nat_eq q i = unsigned_tied q i in
-      let old : contains (set_of w n) q ≡ (nat_lt q w && is_one n q) = contains-set_of w n q in
-      ⊎_elim
-        (λ below. let d = digits q below in grind (arith, nat_tests))
-        (λ above. grind (arith, nat_tests))
-        (cases_lt q w))
+    let c : contains (remove (set_of w n) i) q ≡ (not (eq_by_cmp nat_cmp q i) && contains (set_of w n) q) = contains-remove nat_cmp_total (set_of w n) i q in
+    let t : eq_by_cmp nat_cmp q i ≡ nat_eq q i = unsigned_tied q i in
+    let old : contains (set_of w n) q ≡ (nat_lt q w && is_one n q) = contains-set_of w n q in
+    ⊎_elim
+    (λ below. let d = digits q below in grind (arith, nat_tests))
+    (λ above. grind (arith, nat_tests))
+    (cases_lt q w))
 
 -- ---- the list of members
 
@@ -170,8 +169,8 @@ pub rising-members_of : (w n : ℕ) → IsStrictlyIncreasing (members_of w n)
 unfolding members_of
 rising-members_of w n =
     IsStrictlyIncreasing-filter (is_one n) (range_with_len 0 w) (λ k h.
-      let l : length (range_with_len 0 w) ≡ w = length-range_with_len 0 w in
-      omega (arith, get_or-range_with_len 0 w k 0 (omega arith), get_or-range_with_len 0 w (k + 1) 0 (omega arith)))
+    let l : length (range_with_len 0 w) ≡ w = length-range_with_len 0 w in
+    omega (arith, get_or-range_with_len 0 w k 0 (omega arith), get_or-range_with_len 0 w (k + 1) 0 (omega arith)))
 
 -- the numbers from lo to below hi
 pub members_of-range : (w n lo hi : ℕ) → lo ≤ hi → hi ≤ w → ((i : ℕ) → i < w → is_one n i ≡ (nat_lt i hi && not (nat_lt i lo))) → members_of w n ≡ range_with_len lo (hi - lo)
@@ -181,8 +180,8 @@ members_of-range w n lo hi p q digits =
     let start : 0 + lo ≡ lo = omega arith in
     let end : lo + (hi - lo) ≡ hi = omega arith in
     let cut : range_with_len 0 w ≡ range_with_len 0 lo ++ (range_with_len lo (hi - lo) ++ range_with_len hi (w - hi)) =
-        ap (range_with_len 0) e ∙ range_append 0 lo _
-        ∙ ap (λ xs. range_with_len 0 lo ++ xs) (ap (λ a. range_with_len a ((hi - lo) + (w - hi))) start ∙ range_append lo (hi - lo) (w - hi) ∙ ap (λ a. range_with_len lo (hi - lo) ++ range_with_len a (w - hi)) end)
+    ap (range_with_len 0) e ∙ range_append 0 lo _
+    ∙ ap (λ xs. range_with_len 0 lo ++ xs) (ap (λ a. range_with_len a ((hi - lo) + (w - hi))) start ∙ range_append lo (hi - lo) (w - hi) ∙ ap (λ a. range_with_len lo (hi - lo) ++ range_with_len a (w - hi)) end)
     in
     let low : filter (is_one n) (range_with_len 0 lo) ≡ [] = filter_none_in (is_one n) 0 lo (λ i _ h. let d = digits i (omega arith) in grind (arith, nat_tests)) in
     let mid : filter (is_one n) (range_with_len lo (hi - lo)) ≡ range_with_len lo (hi - lo) = filter_all_in (is_one n) lo (hi - lo) (λ i l h. let d = digits i (omega arith) in grind (arith, nat_tests)) in
@@ -201,21 +200,9 @@ All-members_of P w n each = go 0 w (λ i low high one. each i (omega arith) one)
     go a (suc m) each =
         let rest : All P (filter (is_one n) (range_with_len (a + 1) m)) = go (a + 1) m (λ i low high one. each i (omega arith) (omega arith) one) in
         ⊎_elim
-          (λ yes. rw yes (All-cons P a _ (each a (omega arith) (omega arith) yes) rest))
-          (λ no. rw no rest)
-          (cases_Bool (is_one n a))
-
--- z, the place of the lowest digit 1, is taken out at the front
-pub members_of-pop_low : (w n m z : ℕ) → IsLowZeros w n z → z < w → ((i : ℕ) → i < w → is_one m i ≡ (is_one n i && not (i == z))) → members_of w n ≡ z ∷ members_of w m
-unfolding members_of
-members_of-pop_low w n m z low within without =
-    filter_first (is_one n) (is_one m) z 0 w (omega arith) (omega arith) (low.one within) (λ i _ h. low.zeros i h) (λ i _ h. without i (omega arith))
-
--- z, the place of the highest digit 1, is taken out at the back
-pub members_of-pop_high : (w n m z y : ℕ) → IsHighZeros w n y → y + z + 1 ≡ w → ((i : ℕ) → i < w → is_one m i ≡ (is_one n i && not (i == z))) → members_of w n ≡ members_of w m ++ z ∷ []
-unfolding members_of
-members_of-pop_high w n m z y high at without =
-    filter_last (is_one n) (is_one m) z 0 w (omega arith) (omega arith) (high.one z (omega arith)) (λ i l h. high.zeros i (omega arith) (omega arith)) (λ i _ h. without i (omega arith))
+        (λ yes. rw yes (All-cons P a _ (each a (omega arith) (omega arith) yes) rest))
+        (λ no. rw no rest)
+        (cases_Bool (is_one n a))
 
 -- ---- how many members there are
 
@@ -234,17 +221,17 @@ count-members_of (suc w) n fits =
     let counts : ones n ≡ ones (n / 2 ^ w) + ones (n % 2 ^ w) = ap ones (sym split) ∙ ones_cat w (n / 2 ^ w) (n % 2 ^ w) low in
     let rest : ones (n % 2 ^ w) ≡ length (filter (is_one (n % 2 ^ w)) (range_with_len 0 w)) = count-members_of w (n % 2 ^ w) low in
     let same : filter (is_one (n % 2 ^ w)) (range_with_len 0 w) ≡ filter (is_one n) (range_with_len 0 w) =
-        filter_agree_in (is_one (n % 2 ^ w)) (is_one n) 0 w (λ i _ h. is_one-mod n w i (omega arith)) in
+    filter_agree_in (is_one (n % 2 ^ w)) (is_one n) 0 w (λ i _ h. is_one-mod n w i (omega arith)) in
     let start : 0 + w ≡ w = omega arith in
     let pushed : filter (is_one n) (range_with_len 0 (suc w)) ≡ filter (is_one n) (range_with_len 0 w) ++ filter (is_one n) (w ∷ []) =
-        ap (filter (is_one n)) (range_push 0 w ∙ ap (λ k. range_with_len 0 w ++ k ∷ []) start) ∙ filter-append (is_one n) (range_with_len 0 w) (w ∷ []) in
+    ap (filter (is_one n)) (range_push 0 w ∙ ap (λ k. range_with_len 0 w ++ k ∷ []) start) ∙ filter-append (is_one n) (range_with_len 0 w) (w ∷ []) in
     let long : length (filter (is_one n) (range_with_len 0 (suc w))) ≡ length (filter (is_one n) (range_with_len 0 w)) + length (filter (is_one n) (w ∷ [])) =
-        ap length pushed ∙ length-append (filter (is_one n) (range_with_len 0 w)) (filter (is_one n) (w ∷ [])) in
+    ap length pushed ∙ length-append (filter (is_one n) (range_with_len 0 w)) (filter (is_one n) (w ∷ [])) in
     let below : ones (n % 2 ^ w) ≡ length (filter (is_one n) (range_with_len 0 w)) = rest ∙ ap length same in
     let top : ones (n / 2 ^ w) ≡ length (filter (is_one n) (w ∷ [])) = ⊎_elim
-        (λ (one, digit). rw (one, digit) (ones-ones 1))
-        (λ (none, digit). rw (none, digit) (ones-ones 0))
-        (top_digit n w high) in
+    (λ (one, digit). rw (one, digit) (ones-ones 1))
+    (λ (none, digit). rw (none, digit) (ones-ones 0))
+    (top_digit n w high) in
     omega arith
 
 -- ---- which numbers are members
@@ -257,9 +244,18 @@ member w n k within one =
     Contains-from_any {eq = λ x y. nat_eq y x} (λ x y e. grind (arith, nat_tests)) k (filter (is_one n) (range_with_len 0 w)) (grind (arith, nat_tests))
 
 pub Contains-members_of : (w n k : ℕ) → (Contains (members_of w n) k ↔ ((k < w) × (is_one n k ≡ true)))
-Contains-members_of w n k =
-    (λ has. All-contains (λ i. (i < w) × (is_one n i ≡ true)) (members_of w n) k (All-members_of (λ i. (i < w) × (is_one n i ≡ true)) w n (λ i h one. (h, one))) has,
-     λ (h, one). member w n k h one)
+Contains-members_of w n k = (
+  λ has. All-contains (λ i. (i < w) × (is_one n i ≡ true)) (members_of w n) k (All-members_of (λ i. (i < w) × (is_one n i ≡ true)) w n (λ i h one. (h, one))) has,
+  λ (h, one). member w n k h one,
+)
+
+-- the same, of the set
+pub Contains-set_of : (w n k : ℕ) → (Contains (members_of w n) k ↔ (contains (set_of w n) k ≡ true))
+Contains-set_of w n k =
+    let has = contains-set_of w n k in (
+      λ listed. let at = (Contains-members_of w n k).0 listed in let below = at.0 in let one = at.1 in grind (arith, nat_tests),
+      λ holds. let at : (nat_lt k w && is_one n k) ≡ true = sym has ∙ holds in let parts = and_parts (nat_lt k w) (is_one n k) at in member w n k (ltb-true k w parts.0) parts.1,
+    )
 
 pub least_member : (w n z : ℕ) → IsLowZeros w n z → z < w → Contains (members_of w n) z × All (λ k. z ≤ k) (members_of w n)
 least_member w n z low within =
@@ -272,3 +268,32 @@ greatest_member w n y z high at =
 -- a set with a member is not empty
 pub some_member : (w n z : ℕ) → Contains (members_of w n) z → members_of w n ≡ [] → ⊥
 some_member w n z has none = let one = (Contains-members_of w n z).0 has in let zero' = none_from_members w n z none one.0 in absurd (cc)
+
+-- ---- one member taken out
+
+digit_without : (w n m x i : ℕ) → set_of w m ≡ remove (set_of w n) x → i < w → is_one m i ≡ (is_one n i && not (i == x))
+digit_without w n m x i taken below =
+    let e : contains (set_of w m) i ≡ contains (remove (set_of w n) x) i = ap (λ t. contains t i) taken in
+    let c : contains (remove (set_of w n) x) i ≡ (not (eq_by_cmp nat_cmp i x) && contains (set_of w n) i) = contains-remove nat_cmp_total (set_of w n) x i in
+    let t : eq_by_cmp nat_cmp i x ≡ nat_eq i x = unsigned_tied i x in
+    let new = contains-set_of w m i in
+    let old = contains-set_of w n i in
+    grind (arith, nat_tests)
+
+-- the least member stood first
+pub members_of-first : (w n m x : ℕ) → Contains (members_of w n) x → All (λ k. x ≤ k) (members_of w n) → set_of w m ≡ remove (set_of w n) x → members_of w n ≡ x ∷ members_of w m
+unfolding members_of
+members_of-first w n m x has least taken =
+    let here = (Contains-members_of w n x).0 has in
+    filter_first (is_one n) (is_one m) x 0 w (omega arith) (omega (arith, here.0)) here.1
+    (λ i _ before. false_from_ne_true (is_one n i) (λ one. let at : x ≤ i = All-contains (λ k. x ≤ k) (members_of w n) i least (member w n i (omega (arith, here.0)) one) in omega arith))
+    (λ i _ h. digit_without w n m x i taken (omega arith))
+
+-- the greatest member stood last
+pub members_of-last : (w n m x : ℕ) → Contains (members_of w n) x → All (λ k. k ≤ x) (members_of w n) → set_of w m ≡ remove (set_of w n) x → members_of w n ≡ members_of w m ++ x ∷ []
+unfolding members_of
+members_of-last w n m x has greatest taken =
+    let here = (Contains-members_of w n x).0 has in
+    filter_last (is_one n) (is_one m) x 0 w (omega arith) (omega (arith, here.0)) here.1
+    (λ i after h. false_from_ne_true (is_one n i) (λ one. let at : i ≤ x = All-contains (λ k. k ≤ x) (members_of w n) i greatest (member w n i (omega arith) one) in omega arith))
+    (λ i _ h. digit_without w n m x i taken (omega arith))

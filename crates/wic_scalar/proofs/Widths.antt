@@ -1,10 +1,9 @@
 -- The lemmas on digits at the widths of Rust's unsigned integers, as sets for `using`.
-use Rattle.std.proofs.Common.{◌≡◌, ℕ, ◌+◌, ◌-◌, ◌*◌, ◌^◌, ◌/◌, ◌%◌, ◌<◌, ◌≤◌, not, ◌↔◌, IsTrue, length}
+use Rattle.std.proofs.Common.{◌≡◌, ℕ, ◌-◌, ◌*◌, ◌^◌, ◌/◌, ◌%◌, ◌<◌, ◌≤◌, not, ◌↔◌, IsTrue, length}
 use Rattle.std.specs.Prelude.{◌==◌, nat_lt, nat_eq}
-use Rattle.std.specs.Int.RustNames.{count_ones}
 use Rattle.std.proofs.lemmas.Nat.{leading_le, trailing_le, ones-le}
 use lib.Count.{ones, count_leading_zeros, count_trailing_zeros}
-use Rattle.wic_scalar.specs.Digits.{is_one, SameDigits, IsLowZeros, IsHighZeros}
+use Rattle.wic_scalar.specs.Digits.{is_one, SameDigits, IsHighZeros}
 use Rattle.wic_scalar.specs.Scalar.{members_of}
 use Rattle.wic_scalar.proofs.MemberLemmas.{count-members_of}
 use Rattle.wic_scalar.proofs.DigitLemmas.{low_zeros, high_zeros, is_one-zero, is_one-bit_and, is_one-bit_or, is_one-pow, is_one-ones, is_one-complement, equal_digits, IsLowZeros-count, IsHighZeros-count}
@@ -132,4 +131,3 @@ pub count_128 : CountLaw 128
 count_128 = count-members_of 128
 
 pub ruleset laws_128 = (is_one-zero, is_one-bit_and, is_one-bit_or, bit_128, below_128, not_128, equal_128, low_zeros, high_128, count_128, leading_le, trailing_le, ones-le)
-

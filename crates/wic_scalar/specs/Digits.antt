@@ -1,5 +1,5 @@
 -- A number by its digits in base two. Digit 0 is the lowest.
-use Rattle.std.specs.Prelude.{◌≡◌, ◌==◌, ℕ, ◌+◌, ◌-◌, ◌^◌, ◌/◌, ◌%◌, ◌<◌, ◌≤◌, Bool, true, false}
+use Rattle.std.specs.Prelude.{◌≡◌, ◌==◌, ℕ, ◌+◌, ◌^◌, ◌/◌, ◌%◌, ◌<◌, ◌≤◌, Bool, true, false}
 
 -- whether digit i of n is 1: n divided by 2 ^ i, rounded down, is odd
 unfoldable pub is_one : ℕ → ℕ → Bool

@@ -69,46 +69,57 @@ impl ScalarBitSetStorage for u8 {
 
     ghost number = { λ n. n };
 
+    #[inline]
     fn width() -> u8 {
         8
     }
 
+    #[inline]
     fn zero() -> u8 {
         0
     }
 
+    #[inline]
     fn bit(i: u8) -> u8 {
         1 << i
     }
 
+    #[inline]
     fn below(n: u8) -> u8 {
         if n == 0 { 0 } else { u8::MAX >> (8 - n) }
     }
 
+    #[inline]
     fn bit_and(self, other: u8) -> u8 {
         self & other
     }
 
+    #[inline]
     fn bit_or(self, other: u8) -> u8 {
         self | other
     }
 
+    #[inline]
     fn bit_not(self) -> u8 {
         !self
     }
 
+    #[inline]
     fn is_equal(self, other: u8) -> bool {
         self == other
     }
 
+    #[inline]
     fn leading_zeros(self) -> u8 {
         u8::leading_zeros(self) as u8
     }
 
+    #[inline]
     fn trailing_zeros(self) -> u8 {
         u8::trailing_zeros(self) as u8
     }
 
+    #[inline]
     fn count_ones(self) -> u8 {
         u8::count_ones(self) as u8
     }
@@ -120,46 +131,57 @@ impl ScalarBitSetStorage for u16 {
 
     ghost number = { λ n. n };
 
+    #[inline]
     fn width() -> u8 {
         16
     }
 
+    #[inline]
     fn zero() -> u16 {
         0
     }
 
+    #[inline]
     fn bit(i: u8) -> u16 {
         1 << i
     }
 
+    #[inline]
     fn below(n: u8) -> u16 {
         if n == 0 { 0 } else { u16::MAX >> (16 - n) }
     }
 
+    #[inline]
     fn bit_and(self, other: u16) -> u16 {
         self & other
     }
 
+    #[inline]
     fn bit_or(self, other: u16) -> u16 {
         self | other
     }
 
+    #[inline]
     fn bit_not(self) -> u16 {
         !self
     }
 
+    #[inline]
     fn is_equal(self, other: u16) -> bool {
         self == other
     }
 
+    #[inline]
     fn leading_zeros(self) -> u8 {
         u16::leading_zeros(self) as u8
     }
 
+    #[inline]
     fn trailing_zeros(self) -> u8 {
         u16::trailing_zeros(self) as u8
     }
 
+    #[inline]
     fn count_ones(self) -> u8 {
         u16::count_ones(self) as u8
     }
@@ -171,46 +193,57 @@ impl ScalarBitSetStorage for u32 {
 
     ghost number = { λ n. n };
 
+    #[inline]
     fn width() -> u8 {
         32
     }
 
+    #[inline]
     fn zero() -> u32 {
         0
     }
 
+    #[inline]
     fn bit(i: u8) -> u32 {
         1 << i
     }
 
+    #[inline]
     fn below(n: u8) -> u32 {
         if n == 0 { 0 } else { u32::MAX >> (32 - n) }
     }
 
+    #[inline]
     fn bit_and(self, other: u32) -> u32 {
         self & other
     }
 
+    #[inline]
     fn bit_or(self, other: u32) -> u32 {
         self | other
     }
 
+    #[inline]
     fn bit_not(self) -> u32 {
         !self
     }
 
+    #[inline]
     fn is_equal(self, other: u32) -> bool {
         self == other
     }
 
+    #[inline]
     fn leading_zeros(self) -> u8 {
         u32::leading_zeros(self) as u8
     }
 
+    #[inline]
     fn trailing_zeros(self) -> u8 {
         u32::trailing_zeros(self) as u8
     }
 
+    #[inline]
     fn count_ones(self) -> u8 {
         u32::count_ones(self) as u8
     }
@@ -222,46 +255,57 @@ impl ScalarBitSetStorage for u64 {
 
     ghost number = { λ n. n };
 
+    #[inline]
     fn width() -> u8 {
         64
     }
 
+    #[inline]
     fn zero() -> u64 {
         0
     }
 
+    #[inline]
     fn bit(i: u8) -> u64 {
         1 << i
     }
 
+    #[inline]
     fn below(n: u8) -> u64 {
         if n == 0 { 0 } else { u64::MAX >> (64 - n) }
     }
 
+    #[inline]
     fn bit_and(self, other: u64) -> u64 {
         self & other
     }
 
+    #[inline]
     fn bit_or(self, other: u64) -> u64 {
         self | other
     }
 
+    #[inline]
     fn bit_not(self) -> u64 {
         !self
     }
 
+    #[inline]
     fn is_equal(self, other: u64) -> bool {
         self == other
     }
 
+    #[inline]
     fn leading_zeros(self) -> u8 {
         u64::leading_zeros(self) as u8
     }
 
+    #[inline]
     fn trailing_zeros(self) -> u8 {
         u64::trailing_zeros(self) as u8
     }
 
+    #[inline]
     fn count_ones(self) -> u8 {
         u64::count_ones(self) as u8
     }
@@ -273,46 +317,57 @@ impl ScalarBitSetStorage for u128 {
 
     ghost number = { λ n. n };
 
+    #[inline]
     fn width() -> u8 {
         128
     }
 
+    #[inline]
     fn zero() -> u128 {
         0
     }
 
+    #[inline]
     fn bit(i: u8) -> u128 {
         1 << i
     }
 
+    #[inline]
     fn below(n: u8) -> u128 {
         if n == 0 { 0 } else { u128::MAX >> (128 - n) }
     }
 
+    #[inline]
     fn bit_and(self, other: u128) -> u128 {
         self & other
     }
 
+    #[inline]
     fn bit_or(self, other: u128) -> u128 {
         self | other
     }
 
+    #[inline]
     fn bit_not(self) -> u128 {
         !self
     }
 
+    #[inline]
     fn is_equal(self, other: u128) -> bool {
         self == other
     }
 
+    #[inline]
     fn leading_zeros(self) -> u8 {
         u128::leading_zeros(self) as u8
     }
 
+    #[inline]
     fn trailing_zeros(self) -> u8 {
         u128::trailing_zeros(self) as u8
     }
 
+    #[inline]
     fn count_ones(self) -> u8 {
         u128::count_ones(self) as u8
     }
@@ -324,46 +379,57 @@ impl ScalarBitSetStorage for usize {
 
     ghost number = { λ n. n };
 
+    #[inline]
     fn width() -> u8 {
         64
     }
 
+    #[inline]
     fn zero() -> usize {
         0
     }
 
+    #[inline]
     fn bit(i: u8) -> usize {
         1 << i
     }
 
+    #[inline]
     fn below(n: u8) -> usize {
         if n == 0 { 0 } else { usize::MAX >> (64 - n) }
     }
 
+    #[inline]
     fn bit_and(self, other: usize) -> usize {
         self & other
     }
 
+    #[inline]
     fn bit_or(self, other: usize) -> usize {
         self | other
     }
 
+    #[inline]
     fn bit_not(self) -> usize {
         !self
     }
 
+    #[inline]
     fn is_equal(self, other: usize) -> bool {
         self == other
     }
 
+    #[inline]
     fn leading_zeros(self) -> u8 {
         usize::leading_zeros(self) as u8
     }
 
+    #[inline]
     fn trailing_zeros(self) -> u8 {
         usize::trailing_zeros(self) as u8
     }
 
+    #[inline]
     fn count_ones(self) -> u8 {
         usize::count_ones(self) as u8
     }

@@ -1,0 +1,63 @@
+//! A walk over the members of a set.
+ghost use Rattle.std.specs.Iterator.{YieldsFirst, YieldsLast, item_count};
+
+use crate::set::ScalarBitSet;
+use crate::storage::ScalarBitSetStorage;
+use std::iter::FusedIterator;
+use std::marker::Model;
+
+/// A walk over the members of a set, rising, seen as the list of those that are left.
+///
+/// Port of `cranelift_bitset::scalar::Iter`, with the exact count in `size_hint` too.
+#[derive(Drop)]
+pub struct Iter<T: ScalarBitSetStorage> {
+    // What is left.
+    pub(crate) bitset: ScalarBitSet<T>,
+}
+
+impl<T: ScalarBitSetStorage> Model for Iter<T> {
+    ghost use Rattle.std.specs.Prelude.{ℕ, List};
+    ghost use Rattle.wic_scalar.specs.Scalar.{members_of};
+
+    ghost Value = { List ℕ };
+
+    ghost view = { λ it. members_of T.width (T.number it.bitset.0) };
+}
+
+impl<T: ScalarBitSetStorage> Iterator for Iter<T> {
+    type Item = u8;
+
+    ghost next_gives = { YieldsFirst (λ rest. rest) };
+
+    ghost remaining = { item_count (λ rest. rest) };
+
+    #[inline]
+    fn next(&mut self) -> Option<u8> {
+        self.bitset.pop_min()
+    }
+
+    #[inline]
+    fn size_hint(&self) -> (usize, Option<usize>) {
+        let count = self.len();
+        (count, Some(count))
+    }
+}
+
+impl<T: ScalarBitSetStorage> DoubleEndedIterator for Iter<T> {
+    ghost next_back_gives = { YieldsLast (λ rest. rest) };
+
+    #[inline]
+    fn next_back(&mut self) -> Option<u8> {
+        self.bitset.pop_max()
+    }
+}
+
+impl<T: ScalarBitSetStorage> ExactSizeIterator for Iter<T> {
+    #[inline]
+    fn len(&self) -> usize {
+        usize::from(self.bitset.len())
+    }
+}
+
+/// It stays at its end.
+impl<T: ScalarBitSetStorage> FusedIterator for Iter<T> {}

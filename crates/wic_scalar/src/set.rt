@@ -1,0 +1,240 @@
+//! A set of small numbers in one integer.
+ghost use Rattle.std.specs.Prelude.{◌≡◌, ◌==◌, ◌↔◌, ◌-◌, ◌<◌, ◌≤◌, ℕ, nat_eq, List, [], ◌∷◌, ◌++◌, length, not, IsTrue, IsNone, IfNone, IfSome, All, Contains};
+ghost use Rattle.std.specs.List.{range_with_len};
+ghost use Rattle.std.specs.List.Sorted.{IsStrictlyIncreasing};
+ghost use Rattle.std.specs.Cmp.{on_equiv, on_per, partial_equiv_from_equiv};
+ghost use Rattle.std.specs.Cmp.Lexicographic.{pointwise, nat_list_eq_equiv};
+ghost use Rattle.std.specs.Ordering.{on};
+ghost use Rattle.std.specs.FinSet as fin_set;
+ghost use Rattle.wic_scalar.specs.Scalar.{members_of, set_of};
+
+use crate::iter::Iter;
+use crate::storage::ScalarBitSetStorage;
+
+/// A set of numbers below the width of `T`: the places of the number whose digit in base two is 1.
+///
+/// Port of `cranelift_bitset::ScalarBitSet`.
+#[derive(Clone, Copy)]
+pub struct ScalarBitSet<T>(pub T);
+
+impl<T: ScalarBitSetStorage> ScalarBitSet<T> {
+    /// The empty set. Port of `ScalarBitSet::new`.
+    #[inline]
+    pub fn new() -> Self
+        ensures { members_of T.width (T.number result.0) ≡ [] }
+    {
+        Self(T::zero())
+    }
+
+    /// The numbers from `lo` to below `hi`: none where the two are equal, at the full width too.
+    /// Port of `ScalarBitSet::from_range`, which shifts by the width at `lo == hi == capacity()`.
+    #[inline]
+    pub fn from_range(lo: u8, hi: u8) -> Self
+        requires ordered { lo ≤ hi }
+        requires within { hi ≤ T.width }
+        ensures { members_of T.width (T.number result.0) ≡ range_with_len lo (hi - lo) }
+    {
+        Self(T::below(hi).bit_and(T::below(lo).bit_not()))
+    }
+
+    /// How many numbers the set can hold: each is below this. Port of `ScalarBitSet::capacity`.
+    #[inline]
+    pub fn capacity() -> u8
+        ensures { result ≡ T.width }
+    {
+        T::width()
+    }
+
+    /// How many members there are. Port of `ScalarBitSet::len`.
+    #[inline]
+    pub fn len(&self) -> u8
+        ensures { result ≡ length (members_of T.width (T.number self.now.0)) }
+    {
+        self.0.count_ones()
+    }
+
+    /// Whether there is no member. Port of `ScalarBitSet::is_empty`.
+    #[inline]
+    pub fn is_empty(&self) -> bool
+        ensures { IsTrue result ↔ (members_of T.width (T.number self.now.0) ≡ []) }
+    {
+        self.0.is_equal(T::zero())
+    }
+
+    /// Whether `i` is a member. Port of `ScalarBitSet::contains`.
+    #[inline]
+    pub fn contains(&self, i: u8) -> bool
+        requires { i < T.width }
+        ensures { result ≡ fin_set.contains (set_of T.width (T.number self.now.0)) i }
+    {
+        !self.0.bit_and(T::bit(i)).is_equal(T::zero())
+    }
+
+    /// Puts `i` in, and answers whether it was not there before. Port of `ScalarBitSet::insert`.
+    #[inline]
+    pub fn insert(&mut self, i: u8) -> bool
+        requires { i < T.width }
+        ensures new { result ≡ not (fin_set.contains (set_of T.width (T.number self.old.0)) i) }
+        ensures set { set_of T.width (T.number self.new.0) ≡ fin_set.insert (set_of T.width (T.number self.old.0)) i }
+    {
+        let is_new = !self.contains(i);
+        self.0 = self.0.bit_or(T::bit(i));
+        is_new
+    }
+
+    /// Takes `i` out, and answers whether it was there. Port of `ScalarBitSet::remove`.
+    #[inline]
+    pub fn remove(&mut self, i: u8) -> bool
+        requires { i < T.width }
+        ensures present { result ≡ fin_set.contains (set_of T.width (T.number self.old.0)) i }
+        ensures set { set_of T.width (T.number self.new.0) ≡ fin_set.remove (set_of T.width (T.number self.old.0)) i }
+    {
+        let was_present = self.contains(i);
+        self.0 = self.0.bit_and(T::bit(i).bit_not());
+        was_present
+    }
+
+    /// Takes every member out. Port of `ScalarBitSet::clear`.
+    #[inline]
+    pub fn clear(&mut self)
+        ensures { members_of T.width (T.number self.new.0) ≡ [] }
+    {
+        self.0 = T::zero();
+    }
+
+    /// Takes the least member out and answers it, or `None` where there is none.
+    /// Port of `ScalarBitSet::pop_min`.
+    #[inline]
+    pub fn pop_min(&mut self) -> Option<u8>
+        ensures none { IsNone result ↔ (members_of T.width (T.number self.old.0) ≡ []) }
+        ensures stays { IfNone result (self.new ≡ self.old) }
+        ensures first { IfSome result (λ x. members_of T.width (T.number self.old.0) ≡ x ∷ members_of T.width (T.number self.new.0)) }
+        ensures least { IfSome result (λ x. All (λ k. x ≤ k) (members_of T.width (T.number self.old.0))) }
+        ensures set { IfSome result (λ x. set_of T.width (T.number self.new.0) ≡ fin_set.remove (set_of T.width (T.number self.old.0)) x) }
+    {
+        let min = self.min()?;
+        self.remove(min);
+        Some(min)
+    }
+
+    /// Takes the greatest member out and answers it, or `None` where there is none.
+    /// Port of `ScalarBitSet::pop_max`.
+    #[inline]
+    pub fn pop_max(&mut self) -> Option<u8>
+        ensures none { IsNone result ↔ (members_of T.width (T.number self.old.0) ≡ []) }
+        ensures stays { IfNone result (self.new ≡ self.old) }
+        ensures last { IfSome result (λ x. members_of T.width (T.number self.old.0) ≡ members_of T.width (T.number self.new.0) ++ x ∷ []) }
+        ensures greatest { IfSome result (λ x. All (λ k. k ≤ x) (members_of T.width (T.number self.old.0))) }
+        ensures set { IfSome result (λ x. set_of T.width (T.number self.new.0) ≡ fin_set.remove (set_of T.width (T.number self.old.0)) x) }
+    {
+        let max = self.max()?;
+        self.remove(max);
+        Some(max)
+    }
+
+    /// The least member, or `None` where there is none. Port of `ScalarBitSet::min`.
+    #[inline]
+    pub fn min(&self) -> Option<u8>
+        ensures none { IsNone result ↔ (members_of T.width (T.number self.now.0) ≡ []) }
+        ensures within { IfSome result (λ x. x < T.width) }
+        ensures member { IfSome result (Contains (members_of T.width (T.number self.now.0))) }
+        ensures least { IfSome result (λ x. All (λ k. x ≤ k) (members_of T.width (T.number self.now.0))) }
+    {
+        if self.is_empty() {
+            None
+        } else {
+            Some(self.0.trailing_zeros())
+        }
+    }
+
+    /// The greatest member, or `None` where there is none. Port of `ScalarBitSet::max`.
+    #[inline]
+    pub fn max(&self) -> Option<u8>
+        ensures none { IsNone result ↔ (members_of T.width (T.number self.now.0) ≡ []) }
+        ensures within { IfSome result (λ x. x < T.width) }
+        ensures member { IfSome result (Contains (members_of T.width (T.number self.now.0))) }
+        ensures greatest { IfSome result (λ x. All (λ k. k ≤ x) (members_of T.width (T.number self.now.0))) }
+    {
+        if self.is_empty() {
+            None
+        } else {
+            Some(Self::capacity() - self.0.leading_zeros() - 1)
+        }
+    }
+
+    /// A walk over the members, rising, each once, from either end. Port of `ScalarBitSet::iter`.
+    #[inline]
+    pub fn iter(self) -> Iter<T>
+        ensures members { result ≡ members_of T.width (T.number self.0) }
+        ensures rising { IsStrictlyIncreasing result }
+    {
+        Iter { bitset: self }
+    }
+}
+
+/// The empty set.
+impl<T: ScalarBitSetStorage> Default for ScalarBitSet<T> {
+    ghost is_default = { λ s. members_of T.width (T.number s.0) ≡ [] };
+
+    #[inline]
+    fn default() -> Self {
+        Self::new()
+    }
+}
+
+/// Two sets are equal exactly where they have the same members.
+impl<T: ScalarBitSetStorage> PartialEq for ScalarBitSet<T> {
+    ghost eq = { on (λ s. members_of T.width (T.number s.0)) (pointwise nat_eq) };
+
+    ghost laws = { on_per (λ s. members_of T.width (T.number s.0)) (partial_equiv_from_equiv nat_list_eq_equiv) };
+
+    #[inline]
+    fn eq(&self, other: &Self) -> bool
+        ensures value { result ≡ pointwise nat_eq (members_of T.width (T.number self.now.0)) (members_of T.width (T.number other.now.0)) }
+        ensures members { IsTrue result ↔ (members_of T.width (T.number self.now.0) ≡ members_of T.width (T.number other.now.0)) }
+    {
+        self.0.is_equal(other.0)
+    }
+}
+
+impl<T: ScalarBitSetStorage> Eq for ScalarBitSet<T> {
+    ghost laws = { on_equiv (λ s. members_of T.width (T.number s.0)) nat_list_eq_equiv };
+}
+
+/// The set of the places of a number whose digit is 1.
+impl<T: ScalarBitSetStorage> From<T> for ScalarBitSet<T> {
+    ghost from_gives = { λ bits s. s.0 ≡ bits };
+
+    #[inline]
+    fn from(bits: T) -> Self {
+        Self(bits)
+    }
+}
+
+/// The members, rising.
+impl<T: ScalarBitSetStorage> IntoIterator for ScalarBitSet<T> {
+    type Item = u8;
+
+    type IntoIter = Iter<T>;
+
+    ghost into_iter_gives = { λ s it. it ≡ members_of T.width (T.number s.0) };
+
+    #[inline]
+    fn into_iter(self) -> Iter<T> {
+        self.iter()
+    }
+}
+
+/// The members, rising.
+impl<'a, T: ScalarBitSetStorage> IntoIterator for &'a ScalarBitSet<T> {
+    type Item = u8;
+
+    type IntoIter = Iter<T>;
+
+    ghost into_iter_gives = { λ s it. it ≡ members_of T.width (T.number s.now.0) };
+
+    #[inline]
+    fn into_iter(self) -> Iter<T> {
+        self.iter()
+    }
+}
