@@ -7,6 +7,8 @@
 mod iter;
 mod set;
 mod storage;
+#[cfg(test)]
+mod tests;
 
 pub use set::ScalarBitSet;
 pub use storage::ScalarBitSetStorage;
