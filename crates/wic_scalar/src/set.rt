@@ -12,6 +12,8 @@ use crate::iter::Iter;
 use crate::storage::ScalarBitSetStorage;
 
 /// A set of numbers below the width of `T`: the places of the number whose digit in base two is 1.
+/// A clause sees it as the rising list `members_of` or, where the order is idle, as the set
+/// `set_of`. No call but a walk looks at one place after another.
 ///
 /// Port of `cranelift_bitset::ScalarBitSet`.
 #[derive(Clone, Copy)]
@@ -61,7 +63,7 @@ impl<T: ScalarBitSetStorage> ScalarBitSet<T> {
         self.0.is_equal(T::zero())
     }
 
-    /// Whether `i` is a member. Port of `ScalarBitSet::contains`.
+    /// Whether `i`, which is below `capacity()`, is a member. Port of `ScalarBitSet::contains`.
     #[inline]
     pub fn contains(&self, i: u8) -> bool
         requires { i < T.width }
@@ -70,7 +72,8 @@ impl<T: ScalarBitSetStorage> ScalarBitSet<T> {
         !self.0.bit_and(T::bit(i)).is_equal(T::zero())
     }
 
-    /// Puts `i` in, and answers whether it was not there before. Port of `ScalarBitSet::insert`.
+    /// Puts `i`, which is below `capacity()`, in, and answers whether it was not there before.
+    /// Port of `ScalarBitSet::insert`.
     #[inline]
     pub fn insert(&mut self, i: u8) -> bool
         requires { i < T.width }
@@ -82,7 +85,8 @@ impl<T: ScalarBitSetStorage> ScalarBitSet<T> {
         is_new
     }
 
-    /// Takes `i` out, and answers whether it was there. Port of `ScalarBitSet::remove`.
+    /// Takes `i`, which is below `capacity()`, out, and answers whether it was there.
+    /// Port of `ScalarBitSet::remove`.
     #[inline]
     pub fn remove(&mut self, i: u8) -> bool
         requires { i < T.width }
@@ -172,7 +176,7 @@ impl<T: ScalarBitSetStorage> ScalarBitSet<T> {
     }
 }
 
-/// The empty set.
+/// The empty set. Port of `impl Default for ScalarBitSet`.
 impl<T: ScalarBitSetStorage> Default for ScalarBitSet<T> {
     ghost is_default = { λ s. members_of T.width (T.number s.0) ≡ [] };
 
@@ -182,7 +186,7 @@ impl<T: ScalarBitSetStorage> Default for ScalarBitSet<T> {
     }
 }
 
-/// Two sets are equal exactly where they have the same members.
+/// Two sets are equal exactly where they have the same members. Port of the derived `PartialEq`.
 impl<T: ScalarBitSetStorage> PartialEq for ScalarBitSet<T> {
     ghost eq = { on (λ s. members_of T.width (T.number s.0)) (pointwise nat_eq) };
 
@@ -201,7 +205,7 @@ impl<T: ScalarBitSetStorage> Eq for ScalarBitSet<T> {
     ghost laws = { on_equiv (λ s. members_of T.width (T.number s.0)) nat_list_eq_equiv };
 }
 
-/// The set of the places of a number whose digit is 1.
+/// The set of the places of a number whose digit is 1. Port of `impl From<T> for ScalarBitSet<T>`.
 impl<T: ScalarBitSetStorage> From<T> for ScalarBitSet<T> {
     ghost from_gives = { λ bits s. s.0 ≡ bits };
 
@@ -211,7 +215,7 @@ impl<T: ScalarBitSetStorage> From<T> for ScalarBitSet<T> {
     }
 }
 
-/// The members, rising.
+/// The members, rising. Port of `impl IntoIterator for ScalarBitSet`.
 impl<T: ScalarBitSetStorage> IntoIterator for ScalarBitSet<T> {
     type Item = u8;
 
@@ -225,7 +229,7 @@ impl<T: ScalarBitSetStorage> IntoIterator for ScalarBitSet<T> {
     }
 }
 
-/// The members, rising.
+/// The members, rising. Port of `impl IntoIterator for &ScalarBitSet`.
 impl<'a, T: ScalarBitSetStorage> IntoIterator for &'a ScalarBitSet<T> {
     type Item = u8;
 

@@ -6,8 +6,8 @@ ghost use Rattle.wic_scalar.specs.Scalar.{members_of};
 /// An unsigned integer that holds a set, by its digits in base two: digit 0 is the lowest.
 ///
 /// Each law is a clause of a call, about the values that are passed. Port of
-/// `cranelift_bitset::scalar::ScalarBitSetStorage`, whose operators are named calls here, so that
-/// each has its law.
+/// `cranelift_bitset::scalar::ScalarBitSetStorage`: the operators that the trait asks for there are
+/// calls here, so that each has its law, and `width`, `zero`, `bit` and `below` are its own.
 pub trait ScalarBitSetStorage: Copy {
     /// How many digits each value has.
     ghost width: { ℕ };
@@ -15,7 +15,7 @@ pub trait ScalarBitSetStorage: Copy {
     /// The number that a value is.
     ghost number: { Self → ℕ };
 
-    /// How many digits each value has.
+    /// How many digits each value has: 8 for `u8`, and so on; 64 for `usize`.
     fn width() -> u8
         ensures value { result ≡ width }
         ensures positive { 0 < width };
@@ -29,7 +29,7 @@ pub trait ScalarBitSetStorage: Copy {
         requires { i < width }
         ensures { (k : ℕ) → is_one (number result) k ≡ (k == i) };
 
-    /// The number whose digits below `n` alone are 1.
+    /// The number whose digits below `n` alone are 1: none at 0, all at the width.
     fn below(n: u8) -> Self
         requires { n ≤ width }
         ensures { (k : ℕ) → is_one (number result) k ≡ nat_lt k n };
