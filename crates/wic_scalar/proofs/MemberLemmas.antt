@@ -265,10 +265,6 @@ pub greatest_member : (w n y z : ℕ) → IsHighZeros w n y → z + y + 1 ≡ w 
 greatest_member w n y z high at =
     (member w n z (omega arith) (high.one z at), All-members_of (λ k. k ≤ z) w n (λ i h one. ⊎_elim (λ above. let none = high.zeros i (omega arith) h in absurd (cc)) (λ below. below) (cases_lt z i)))
 
--- a set with a member is not empty
-pub some_member : (w n z : ℕ) → Contains (members_of w n) z → members_of w n ≡ [] → ⊥
-some_member w n z has none = let one = (Contains-members_of w n z).0 has in let zero' = none_from_members w n z none one.0 in absurd (cc)
-
 -- ---- one member taken out
 
 digit_without : (w n m x i : ℕ) → set_of w m ≡ remove (set_of w n) x → i < w → is_one m i ≡ (is_one n i && not (i == x))

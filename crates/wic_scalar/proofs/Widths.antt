@@ -8,126 +8,42 @@ use Rattle.wic_scalar.specs.Scalar.{members_of}
 use Rattle.wic_scalar.proofs.MemberLemmas.{count-members_of}
 use Rattle.wic_scalar.proofs.DigitLemmas.{low_zeros, high_zeros, is_one-zero, is_one-bit_and, is_one-bit_or, is_one-pow, is_one-ones, is_one-complement, equal_digits, IsLowZeros-count, IsHighZeros-count}
 
-module _ (w : ℕ) where
-  abbrev pub BitLaw : Type 0
-  BitLaw = (i k : ℕ) → i < w → is_one (1 * 2 ^ i % 2 ^ w) k ≡ (k == i)
+-- what `1 << i`, `MAX >> (w - n)`, `!n`, `a == b` and the counts give at w digits. `x ≡ x` says nothing: it shows `grind` the count to match
+pub record Laws (w : ℕ) : Type 0 where
+  pub bit : (i k : ℕ) → i < w → is_one (1 * 2 ^ i % 2 ^ w) k ≡ (k == i)
+  pub below : (n k : ℕ) → n ≤ w → is_one ((2 ^ w - 1) / 2 ^ (w - n)) k ≡ nat_lt k n
+  pub complement : (n i : ℕ) → n < 2 ^ w → i < w → is_one (2 ^ w - 1 - n) i ≡ not (is_one n i)
+  pub equal : (a b : ℕ) → a < 2 ^ w → b < 2 ^ w → (IsTrue (nat_eq a b) ↔ SameDigits w a b)
+  pub high : (n : ℕ) → n < 2 ^ w → (count_leading_zeros w n ≡ count_leading_zeros w n) × IsHighZeros w n (count_leading_zeros w n)
+  pub count : (n : ℕ) → n < 2 ^ w → ones n ≡ length (members_of w n)
 
-  abbrev pub BelowLaw : Type 0
-  BelowLaw = (n k : ℕ) → n ≤ w → is_one ((2 ^ w - 1) / 2 ^ (w - n)) k ≡ nat_lt k n
+laws : (w : ℕ) → Laws w
+laws w = record { bit = is_one-pow w; below = is_one-ones w; complement = is_one-complement w; equal = equal_digits w; high = high_zeros w; count = count-members_of w }
 
-  abbrev pub NotLaw : Type 0
-  NotLaw = (n i : ℕ) → n < 2 ^ w → i < w → is_one (2 ^ w - 1 - n) i ≡ not (is_one n i)
+-- those that hold at any width
+pub ruleset any_width = (is_one-zero, is_one-bit_and, is_one-bit_or, low_zeros, leading_le, trailing_le, ones-le)
 
-  abbrev pub EqualLaw : Type 0
-  EqualLaw = (a b : ℕ) → a < 2 ^ w → b < 2 ^ w → (IsTrue (nat_eq a b) ↔ SameDigits w a b)
+pub at_8 : Laws 8
+at_8 = laws 8
 
-  abbrev pub HighLaw : Type 0
-  HighLaw = (n : ℕ) → n < 2 ^ w → (count_leading_zeros w n ≡ count_leading_zeros w n) × IsHighZeros w n (count_leading_zeros w n)
+pub ruleset laws_8 = (any_width, at_8)
 
-  abbrev pub CountLaw : Type 0
-  CountLaw = (n : ℕ) → n < 2 ^ w → ones n ≡ length (members_of w n)
+pub at_16 : Laws 16
+at_16 = laws 16
 
--- ---- 8 digits
-pub bit_8 : BitLaw 8
-bit_8 = is_one-pow 8
+pub ruleset laws_16 = (any_width, at_16)
 
-pub below_8 : BelowLaw 8
-below_8 = is_one-ones 8
+pub at_32 : Laws 32
+at_32 = laws 32
 
-pub not_8 : NotLaw 8
-not_8 = is_one-complement 8
+pub ruleset laws_32 = (any_width, at_32)
 
-pub equal_8 : EqualLaw 8
-equal_8 = equal_digits 8
+pub at_64 : Laws 64
+at_64 = laws 64
 
-pub high_8 : HighLaw 8
-high_8 = high_zeros 8
+pub ruleset laws_64 = (any_width, at_64)
 
-pub count_8 : CountLaw 8
-count_8 = count-members_of 8
+pub at_128 : Laws 128
+at_128 = laws 128
 
-pub ruleset laws_8 = (is_one-zero, is_one-bit_and, is_one-bit_or, bit_8, below_8, not_8, equal_8, low_zeros, high_8, count_8, leading_le, trailing_le, ones-le)
-
--- ---- 16 digits
-pub bit_16 : BitLaw 16
-bit_16 = is_one-pow 16
-
-pub below_16 : BelowLaw 16
-below_16 = is_one-ones 16
-
-pub not_16 : NotLaw 16
-not_16 = is_one-complement 16
-
-pub equal_16 : EqualLaw 16
-equal_16 = equal_digits 16
-
-pub high_16 : HighLaw 16
-high_16 = high_zeros 16
-
-pub count_16 : CountLaw 16
-count_16 = count-members_of 16
-
-pub ruleset laws_16 = (is_one-zero, is_one-bit_and, is_one-bit_or, bit_16, below_16, not_16, equal_16, low_zeros, high_16, count_16, leading_le, trailing_le, ones-le)
-
--- ---- 32 digits
-pub bit_32 : BitLaw 32
-bit_32 = is_one-pow 32
-
-pub below_32 : BelowLaw 32
-below_32 = is_one-ones 32
-
-pub not_32 : NotLaw 32
-not_32 = is_one-complement 32
-
-pub equal_32 : EqualLaw 32
-equal_32 = equal_digits 32
-
-pub high_32 : HighLaw 32
-high_32 = high_zeros 32
-
-pub count_32 : CountLaw 32
-count_32 = count-members_of 32
-
-pub ruleset laws_32 = (is_one-zero, is_one-bit_and, is_one-bit_or, bit_32, below_32, not_32, equal_32, low_zeros, high_32, count_32, leading_le, trailing_le, ones-le)
-
--- ---- 64 digits
-pub bit_64 : BitLaw 64
-bit_64 = is_one-pow 64
-
-pub below_64 : BelowLaw 64
-below_64 = is_one-ones 64
-
-pub not_64 : NotLaw 64
-not_64 = is_one-complement 64
-
-pub equal_64 : EqualLaw 64
-equal_64 = equal_digits 64
-
-pub high_64 : HighLaw 64
-high_64 = high_zeros 64
-
-pub count_64 : CountLaw 64
-count_64 = count-members_of 64
-
-pub ruleset laws_64 = (is_one-zero, is_one-bit_and, is_one-bit_or, bit_64, below_64, not_64, equal_64, low_zeros, high_64, count_64, leading_le, trailing_le, ones-le)
-
--- ---- 128 digits
-pub bit_128 : BitLaw 128
-bit_128 = is_one-pow 128
-
-pub below_128 : BelowLaw 128
-below_128 = is_one-ones 128
-
-pub not_128 : NotLaw 128
-not_128 = is_one-complement 128
-
-pub equal_128 : EqualLaw 128
-equal_128 = equal_digits 128
-
-pub high_128 : HighLaw 128
-high_128 = high_zeros 128
-
-pub count_128 : CountLaw 128
-count_128 = count-members_of 128
-
-pub ruleset laws_128 = (is_one-zero, is_one-bit_and, is_one-bit_or, bit_128, below_128, not_128, equal_128, low_zeros, high_128, count_128, leading_le, trailing_le, ones-le)
+pub ruleset laws_128 = (any_width, at_128)
