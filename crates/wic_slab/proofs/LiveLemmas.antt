@@ -1,0 +1,60 @@
+-- Maps of live ids: what reads find after a write and a removal, and what these undo.
+use Rattle.std.proofs.Common.{◌≡◌, ◌≢◌, ◌+◌, ◌-◌, ℕ, true, false, Option, Some, None, is_some, inl, inr, refl, sym, ◌∙◌, arith, nat_cmp}
+use Rattle.std.proofs.lemmas.Bool.{cases_eq}
+use Rattle.std.proofs.lemmas.Bool.Decides.{nat_tests}
+use Rattle.std.specs.Ordering.{eq_by_cmp}
+use Rattle.std.specs.Cmp.{nat_cmp_total}
+use Rattle.std.specs.FinMap.{FinMap, get, insert, remove, contains_key, len, get-insert, get-remove, len-insert, len-remove, same_map, nat_cmp-IsAntisymmetric}
+
+pub tied_same : (k : ℕ) → eq_by_cmp nat_cmp k k ≡ true
+tied_same k = grind (arith, nat_tests)
+
+pub tied_other : (q k : ℕ) → q ≢ k → eq_by_cmp nat_cmp q k ≡ false
+tied_other q k differs = grind (arith, nat_tests)
+
+module _ {T : Type 0} where
+  pub get-insert_same : (m : FinMap nat_cmp T) (k : ℕ) (v : T) → get (insert m k v) k ≡ Some v
+  get-insert_same m k v = rw (get-insert nat_cmp_total, tied_same)
+
+  pub get-insert_other : (m : FinMap nat_cmp T) (k : ℕ) (v : T) (q : ℕ) → q ≢ k → get (insert m k v) q ≡ get m q
+  get-insert_other m k v q differs = rw (get-insert nat_cmp_total, tied_other q k differs)
+
+  pub get-remove_same : (m : FinMap nat_cmp T) (k : ℕ) → get (remove m k) k ≡ None
+  get-remove_same m k = rw (get-remove nat_cmp_total, tied_same)
+
+  pub get-remove_other : (m : FinMap nat_cmp T) (k q : ℕ) → q ≢ k → get (remove m k) q ≡ get m q
+  get-remove_other m k q differs = rw (get-remove nat_cmp_total, tied_other q k differs)
+
+  pub same_live : (m n : FinMap nat_cmp T) → ((q : ℕ) → get m q ≡ get n q) → m ≡ n
+  same_live = same_map nat_cmp_total nat_cmp-IsAntisymmetric
+
+  -- a value that is taken out and put back
+  pub insert-remove : (m : FinMap nat_cmp T) (k : ℕ) (v : T) → get m k ≡ Some v → insert (remove m k) k v ≡ m
+  insert-remove m k v found =
+      same_live _ _
+      (λ q. elim (cases_eq q k) [
+        | inl same ↦ rw same (get-insert_same _ k v ∙ sym found)
+        | inr differs ↦ get-insert_other _ k v q differs ∙ get-remove_other m k q differs
+      ])
+
+  -- a value that is put under an id with none and taken out
+  pub remove-insert : (m : FinMap nat_cmp T) (k : ℕ) (v : T) → get m k ≡ None → remove (insert m k v) k ≡ m
+  remove-insert m k v none =
+      same_live _ _
+      (λ q. elim (cases_eq q k) [
+        | inl same ↦ rw same (get-remove_same _ k ∙ sym none)
+        | inr differs ↦ get-remove_other _ k q differs ∙ get-insert_other m k v q differs
+      ])
+
+  pub none_from_not_some : (o : Option T) → is_some o ≡ false → o ≡ None
+  none_from_not_some None e = refl
+  none_from_not_some (Some v) e = cc
+
+  pub len-insert_new : (m : FinMap nat_cmp T) (k : ℕ) (v : T) → contains_key m k ≡ false → len (insert m k v) ≡ len m + 1
+  len-insert_new m k v none = rw (len-insert nat_cmp_total, none)
+
+  pub len-insert_again : (m : FinMap nat_cmp T) (k : ℕ) (v : T) → contains_key m k ≡ true → len (insert m k v) ≡ len m
+  len-insert_again m k v live = rw (len-insert nat_cmp_total, live)
+
+  pub len-remove_live : (m : FinMap nat_cmp T) (k : ℕ) → contains_key m k ≡ true → len (remove m k) ≡ len m - 1
+  len-remove_live m k live = rw (len-remove nat_cmp_total, live)

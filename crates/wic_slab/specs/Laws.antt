@@ -1,0 +1,24 @@
+-- The laws of the hand-out order, over live ids with their values.
+use Rattle.std.specs.Prelude.{◌≡◌, ℕ, Some}
+use Rattle.std.specs.Ordering.{nat_cmp}
+use Rattle.std.specs.FinMap.{FinMap, get, insert, remove}
+use Rattle.wic_slab.specs.Order.{Order, next_id, take_next, give_back, IsOrder, BelongsTo}
+
+-- a live id is given back, and its value is allocated: the answer is that id, and map and order are as before both
+abbrev pub AllocationUndoesGivingBack : Type 0 → Type 0
+AllocationUndoesGivingBack T =
+    (order : Order) (live : FinMap nat_cmp T) (id : ℕ) (value : T)
+    → IsOrder order → BelongsTo order live → get live id ≡ Some value
+    → let given_back = give_back order id in
+    (next_id given_back ≡ id)
+    × (insert (remove live id) (next_id given_back) value ≡ live)
+    × (take_next given_back ≡ order)
+
+-- a value is allocated, and its id is given back: map and order are as before both
+abbrev pub GivingBackUndoesAllocation : Type 0 → Type 0
+GivingBackUndoesAllocation T =
+    (order : Order) (live : FinMap nat_cmp T) (value : T)
+    → IsOrder order → BelongsTo order live
+    → let id = next_id order in
+    (remove (insert live id value) id ≡ live)
+    × (give_back (take_next order) id ≡ order)

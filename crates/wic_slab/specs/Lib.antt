@@ -1,0 +1,3 @@
+-- What contracts see of a slab, the order in which it hands out its ids, and the laws of that order.
+pub mod Laws
+pub mod Order
