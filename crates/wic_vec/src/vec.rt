@@ -137,6 +137,18 @@ impl<T> TryVec<T> {
         Ok(())
     }
 
+    /// Puts `value` at the end, within the room that there is: it takes no memory, and the capacity stays.
+    ///
+    /// This project's own, for a caller that knows of the room. It never drops a value, so the elements may be of
+    /// any type.
+    pub fn push_reserved(&mut self, value: T)
+        requires { length self.old.items < self.old.capacity }
+        ensures last { self.new.items ≡ self.old.items ++ value ∷ [] }
+        ensures capacity_stays { self.new.capacity ≡ self.old.capacity }
+    {
+        self.inner.push_reserved(value);
+    }
+
     /// Takes the last element out, or answers `None` where there is none. The capacity stays.
     ///
     /// A port of `TryVec::pop`.
