@@ -1,2 +1,4 @@
+pub mod EntryLemmas
 pub mod LiveLemmas
 pub mod OrderLemmas
+pub mod SoundLemmas

@@ -1,10 +1,10 @@
 -- Maps of live ids: what reads find after a write and a removal, and what these undo.
-use Rattle.std.proofs.Common.{◌≡◌, ◌≢◌, ◌+◌, ◌-◌, ℕ, true, false, Option, Some, None, is_some, inl, inr, refl, sym, ◌∙◌, arith, nat_cmp}
+use Rattle.std.proofs.Common.{ap, true≢false, zero, suc, ◌<◌, ◌≡◌, ◌≢◌, ◌+◌, ◌-◌, ℕ, true, false, Option, Some, None, is_some, inl, inr, refl, sym, ◌∙◌, arith, nat_cmp}
 use Rattle.std.proofs.lemmas.Bool.{cases_eq}
 use Rattle.std.proofs.lemmas.Bool.Decides.{nat_tests}
 use Rattle.std.specs.Ordering.{eq_by_cmp}
 use Rattle.std.specs.Cmp.{nat_cmp_total}
-use Rattle.std.specs.FinMap.{FinMap, get, insert, remove, contains_key, len, get-insert, get-remove, len-insert, len-remove, same_map, nat_cmp-IsAntisymmetric}
+use Rattle.std.specs.FinMap.{FinMap, get, insert, remove, contains_key, len, get-insert, get-remove, len-insert, len-remove, same_map, nat_cmp-IsAntisymmetric, empty_of_len, get-empty}
 
 pub tied_same : (k : ℕ) → eq_by_cmp nat_cmp k k ≡ true
 tied_same k = grind (arith, nat_tests)
@@ -58,3 +58,26 @@ module _ {T : Type 0} where
 
   pub len-remove_live : (m : FinMap nat_cmp T) (k : ℕ) → contains_key m k ≡ true → len (remove m k) ≡ len m - 1
   len-remove_live m k live = rw (len-remove nat_cmp_total, live)
+
+  some_from_live : (o : Option T) → is_some o ≡ true → (value : T) × (o ≡ Some value)
+  some_from_live None e = absurd (cc)
+  some_from_live (Some value) e = (value, refl)
+
+  -- the value of a live id
+  pub live_value : (m : FinMap nat_cmp T) (k : ℕ) → contains_key m k ≡ true → (value : T) × (get m k ≡ Some value)
+  live_value m k live = some_from_live (get m k) live
+
+  -- where an id is live, there is a live one
+  pub len_of_live : (m : FinMap nat_cmp T) (k : ℕ) → contains_key m k ≡ true → 0 < len m
+  len_of_live m k live = by_len (len m) refl
+    where
+      by_len : (n : ℕ) → len m ≡ n → 0 < len m
+      by_len zero none = absurd (true≢false (sym live ∙ ap is_some (ap (λ x. get x k) (empty_of_len m none) ∙ get-empty nat_cmp k)))
+      by_len (suc n) some = omega arith
+
+  pub contains_key-insert_again : (m : FinMap nat_cmp T) (k : ℕ) (v : T) (q : ℕ) → contains_key m k ≡ true → contains_key (insert m k v) q ≡ contains_key m q
+  contains_key-insert_again m k v q live =
+      elim (cases_eq q k) [
+        | inl same ↦ rw same (ap is_some (get-insert_same m k v) ∙ sym live)
+        | inr differs ↦ ap is_some (get-insert_other m k v q differs)
+      ]

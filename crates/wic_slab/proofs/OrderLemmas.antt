@@ -1,23 +1,23 @@
 -- How taking the next id and giving one back change the order.
-use Rattle.std.proofs.Common.{◌≡◌, ◌≢◌, ℕ, ◌+◌, ◌<◌, ◌≤◌, Bool, true, false, cond, not, ◌&&◌, ◌||◌, List, [], ◌∷◌, nat_eq, nat_lt, is_some, inl, inr, refl, sym, ap, ◌∙◌, arith, nat_cmp}
+use Rattle.std.proofs.Common.{max, length, ◌-◌, ◌≡◌, ◌≢◌, ℕ, ◌+◌, ◌<◌, ◌≤◌, Bool, true, false, cond, not, ◌&&◌, ◌||◌, List, [], ◌∷◌, nat_eq, nat_lt, is_some, inl, inr, refl, sym, ap, ◌∙◌, arith, nat_cmp}
 use Rattle.std.proofs.lemmas.Bool.{cases_eq}
 use Rattle.std.proofs.lemmas.Bool.Decides.{nat_tests}
 use Rattle.std.specs.List.{AllByRecursion, IsDistinct, list_any}
 use Rattle.std.specs.FinMap.{FinMap, insert, remove, contains_key}
-use Rattle.wic_slab.specs.Order.{Order, max_capacity, next_id, take_from, take_next, give_to, give_back, last_or, is_vacant, IsOrder, BelongsTo}
+use Rattle.wic_slab.specs.Order.{Order, max_capacity, from_zero, next_id, take_from, take_next, give_to, give_back, last_or, is_vacant, IsOrder, BelongsTo}
 use Rattle.wic_slab.proofs.LiveLemmas.{get-insert_same, get-insert_other, get-remove_same, get-remove_other}
 
-nat_eq_same : (k : ℕ) → nat_eq k k ≡ true
+pub nat_eq_same : (k : ℕ) → nat_eq k k ≡ true
 nat_eq_same k = grind (arith, nat_tests)
 
-nat_eq_other : (q k : ℕ) → q ≢ k → nat_eq q k ≡ false
+pub nat_eq_other : (q k : ℕ) → q ≢ k → nat_eq q k ≡ false
 nat_eq_other q k differs = grind (arith, nat_tests)
 
-neither : (a b : Bool) → (a || b) ≡ false → a ≡ false
+pub neither : (a b : Bool) → (a || b) ≡ false → a ≡ false
 neither true b e = absurd (cc)
 neither false b e = refl
 
-nor : (a b : Bool) → (a || b) ≡ false → b ≡ false
+pub nor : (a b : Bool) → (a || b) ≡ false → b ≡ false
 nor true b e = absurd (cc)
 nor false b e = e
 
@@ -202,3 +202,62 @@ module _ {T : Type 0} where
         | inl same ↦ rw same (ap is_some (get-remove_same live id) ∙ sym (given_not_live o.vacant o.fresh id))
         | inr differs ↦ ap is_some (get-remove_other live id q differs) ∙ belongs q ∙ sym (others_given o.vacant o.fresh id q differs)
       ]
+
+-- an id that was taken is neither vacant nor fresh
+pub taken_not_vacant : (o : Order) → IsOrder o → is_vacant (take_next o) (next_id o) ≡ false
+taken_not_vacant o valid = second_of _ _ (taken_is_live o.vacant o.fresh valid)
+
+pub taken_below_fresh : (o : Order) → IsOrder o → next_id o < (take_next o).fresh
+taken_below_fresh o valid = below_from_test _ _ (first_of _ _ (taken_is_live o.vacant o.fresh valid))
+
+fresh_taken_by : (vacant : List ℕ) (fresh : ℕ) → AllByRecursion (λ id. id < fresh) vacant → (take_from vacant fresh).fresh ≡ max fresh (next_id (record { vacant = vacant; fresh = fresh }) + 1)
+fresh_taken_by [] fresh below = omega arith
+fresh_taken_by (id ∷ ids) fresh below = omega (arith, below.0)
+
+pub fresh_taken : (o : Order) → IsOrder o → (take_next o).fresh ≡ max o.fresh (next_id o + 1)
+fresh_taken o valid = fresh_taken_by o.vacant o.fresh valid.below
+
+total_taken_by : (vacant : List ℕ) (fresh count : ℕ) → count + length vacant ≡ fresh → count + 1 + length (take_from vacant fresh).vacant ≡ (take_from vacant fresh).fresh
+total_taken_by [] fresh count total = omega arith
+total_taken_by (id ∷ ids) fresh count total = omega arith
+
+pub total_taken : (o : Order) (count : ℕ) → count + length o.vacant ≡ o.fresh → count + 1 + length (take_next o).vacant ≡ (take_next o).fresh
+total_taken o count total = total_taken_by o.vacant o.fresh count total
+
+total_given_by : (vacant : List ℕ) (fresh count id : ℕ) → 0 < count → count + length vacant ≡ fresh → count - 1 + length (give_to vacant fresh id).vacant ≡ (give_to vacant fresh id).fresh
+total_given_by [] fresh count id some total =
+    elim (cases_eq (id + 1) fresh) [
+      | inl same ↦ rw (same, nat_eq_same fresh) (omega arith)
+      | inr differs ↦ rw (nat_eq_other (id + 1) fresh differs) (omega arith)
+    ]
+total_given_by (next ∷ ids) fresh count id some total = omega arith
+
+pub total_given : (o : Order) (count id : ℕ) → 0 < count → count + length o.vacant ≡ o.fresh → count - 1 + length (give_back o id).vacant ≡ (give_back o id).fresh
+total_given o count id some total = total_given_by o.vacant o.fresh count id some total
+
+fresh_given_by : (vacant : List ℕ) (fresh count id : ℕ) → count + length vacant ≡ fresh → (give_to vacant fresh id).fresh ≡ cond (nat_eq count fresh && nat_eq (id + 1) fresh) id fresh
+fresh_given_by [] fresh count id total =
+    let full : count ≡ fresh = omega arith in
+    elim (cases_eq (id + 1) fresh) [
+      | inl same ↦ rw (full, same, nat_eq_same fresh)
+      | inr differs ↦ rw (full, nat_eq_same fresh, nat_eq_other (id + 1) fresh differs)
+    ]
+fresh_given_by (next ∷ ids) fresh count id total = rw (nat_eq_other count fresh (λ same. omega arith))
+
+-- the first fresh id falls only where no id below it is vacant, and then the live ones are as many as it
+pub fresh_given : (o : Order) (count id : ℕ) → count + length o.vacant ≡ o.fresh → (give_back o id).fresh ≡ cond (nat_eq count o.fresh && nat_eq (id + 1) o.fresh) id o.fresh
+fresh_given o count id total = fresh_given_by o.vacant o.fresh count id total
+
+fresh_given_le_by : (vacant : List ℕ) (fresh id : ℕ) → id < fresh → (give_to vacant fresh id).fresh ≤ fresh
+fresh_given_le_by [] fresh id below =
+    elim (cases_eq (id + 1) fresh) [
+      | inl same ↦ rw (same, nat_eq_same fresh) (omega arith)
+      | inr differs ↦ rw (nat_eq_other (id + 1) fresh differs) (omega arith)
+    ]
+fresh_given_le_by (next ∷ ids) fresh id below = omega arith
+
+pub fresh_given_le : (o : Order) (id : ℕ) → id < o.fresh → (give_back o id).fresh ≤ o.fresh
+fresh_given_le o id below = fresh_given_le_by o.vacant o.fresh id below
+
+pub from_zero-IsOrder : IsOrder from_zero
+from_zero-IsOrder = record { distinct = distinct_none; below = tt; last_apart = λ same. omega arith; at_most = omega arith }

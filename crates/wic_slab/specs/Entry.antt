@@ -1,19 +1,15 @@
 -- How a `Slab` lays out its entries. No public clause cites this module.
 use Rattle.std.specs.Prelude.{◌≡◌, ℕ, zero, suc, ◌+◌, ◌-◌, ◌≤◌, List, [], ◌∷◌, ◌++◌, length, Option, Some, None, slice_get, slice_index_or}
+use Rattle.std.specs.List.{range_with_len}
 use Rattle.std.specs.Ordering.{nat_cmp}
 use Rattle.std.specs.FinMap.{FinMap, from_sorted, len}
 use Rattle.wic_slab.specs.Order.{Order, max_capacity, IsOrder, BelongsTo}
 use Rattle.wic_slab.specs.declared.slab.Entry.{Entry}
 use Rattle.wic_slab.specs.declared.slab.Entry.TheVariants.{Vacant, Occupied}
 
--- so many numbers, this one first, each one more than the one before
-abbrev pub numbers_from : ℕ → ℕ → List ℕ
-numbers_from first zero = []
-numbers_from first (suc count) = first ∷ numbers_from (first + 1) count
-
 -- the vacant ids of an order and then the fresh ones, as far as there are so many entries
 abbrev pub vacant_places : Order → ℕ → List ℕ
-vacant_places o count = o.vacant ++ numbers_from o.fresh (count - o.fresh)
+vacant_places o count = o.vacant ++ range_with_len o.fresh (count - o.fresh)
 
 module _ {T : Type 0} where
   -- the value of an entry, if it has one

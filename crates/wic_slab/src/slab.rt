@@ -1,5 +1,5 @@
 //! Values under ids that the slab hands out.
-ghost use Rattle.std.specs.Prelude.{◌≡◌, ◌+◌, ◌<◌, ◌≤◌, ◌==◌, ◌↔◌, ◌&&◌, if◌then◌else◌, Some, IsTrue, IsOk, IsErr, IsSome, IfOk, IfErr, OnOk, OnErr, option_copied};
+ghost use Rattle.std.specs.Prelude.{◌≡◌, ◌+◌, ◌<◌, ◌≤◌, ◌==◌, ◌↔◌, ◌&&◌, if◌then◌else◌, Some, false, IsTrue, IsOk, IsErr, IsSome, IfOk, IfErr, OnOk, OnErr, option_copied};
 ghost use Rattle.std.specs.FinMap.{empty, get, insert, remove, contains_key, len};
 ghost use Rattle.wic_slab.specs.Order.{max_capacity, from_zero, next_id, take_next, give_back};
 ghost use Rattle.wic_slab.specs.Slab.{IsLive, HasRoomFor, IsSlab};
@@ -35,7 +35,7 @@ pub(crate) enum Entry<T> {
 }
 
 impl<T> Model for Slab<T> {
-    ghost use Rattle.std.specs.Prelude.{min};
+    ghost use Rattle.std.specs.Prelude.{◌≤◌, min, length};
     ghost use Rattle.wic_slab.specs.Order.{max_capacity};
     ghost use Rattle.wic_slab.specs.Slab.{Slab as Held, slab_code};
 
@@ -51,12 +51,20 @@ impl<T> Model for Slab<T> {
       capacity = min s.entries.capacity max_capacity;
     } };
 
-    ghost invariant = { λ s. IsSound s.entries.items s.len s.next (order_of s.entries.items s.next s.len s.fresh) };
+    ghost invariant = { λ s.
+        IsSound s.entries.items s.len s.next (order_of s.entries.items s.next s.len s.fresh)
+        × (length s.entries.items ≤ s.entries.capacity) };
 }
+
+// What the first growth makes room for.
+const MIN_CAPACITY: usize = 16;
+
+// `Slab::MAX_CAPACITY`, for every type of value.
+const LIMIT: usize = 4294967294;
 
 impl<T> Slab<T> {
     /// The greatest capacity, and so the greatest number of values. A port of `Slab::MAX_CAPACITY`.
-    pub const MAX_CAPACITY: usize = 4294967294;
+    pub const MAX_CAPACITY: usize = LIMIT;
 
     /// The empty slab, of capacity 0, whose ids start at 0. It takes no memory.
     ///
@@ -73,4 +81,220 @@ impl<T> Slab<T> {
             len: 0,
         }
     }
+
+    /// The empty slab with room for at least `capacity` values. A capacity of 0 is never refused.
+    ///
+    /// A port of `Slab::with_capacity`.
+    pub fn with_capacity(alloc: Global, capacity: usize) -> Result<Slab<T>, OutOfMemory>
+        requires { capacity ≤ max_capacity }
+        ensures empty { IfOk result (λ s. s.live ≡ empty) }
+        ensures order { IfOk result (λ s. s.order ≡ from_zero) }
+        ensures capacity { IfOk result (λ s. capacity ≤ s.capacity) }
+        ensures zero_never_refused { capacity ≡ 0 → IsOk result }
+    {
+        Ok(Slab {
+            entries: TryVec::with_capacity(alloc, capacity)?,
+            next: 0,
+            fresh: 0,
+            len: 0,
+        })
+    }
+
+    /// Makes room for `additional` more values than are live. The live ids, their values and the hand-out order
+    /// stay, and so does the capacity where it is enough. It is refused only where the capacity is too small, and
+    /// then nothing changes. It asks for memory once.
+    ///
+    /// A port of `Slab::reserve`.
+    pub fn reserve(&mut self, additional: usize) -> Result<(), OutOfMemory>
+        requires { len self.old.live + additional ≤ max_capacity }
+        ensures same_live { self.new.live ≡ self.old.live }
+        ensures same_order { self.new.order ≡ self.old.order }
+        ensures room { OnOk result (HasRoomFor self.new additional) }
+        ensures never_refused_within { HasRoomFor self.old additional → IsOk result }
+        ensures refused_only_beyond { OnErr result (self.old.capacity < len self.old.live + additional) }
+        ensures unchanged_within { HasRoomFor self.old additional → self.new ≡ self.old }
+        ensures capacity_never_falls { self.old.capacity ≤ self.new.capacity }
+        ensures refusal_leaves { OnErr result (self.new ≡ self.old) }
+    {
+        let wanted = self.len as usize + additional;
+        if wanted <= self.entries.capacity() {
+            return Ok(());
+        }
+        self.entries.reserve(wanted - self.entries.len())
+    }
+
+    /// How many values fit with no request for memory, the live ones among them.
+    ///
+    /// A port of `Slab::capacity`, which may be less than the room that the entries have.
+    pub fn capacity(&self) -> usize
+        ensures capacity { result ≡ self.now.capacity }
+        ensures holds_all { len self.now.live ≤ result }
+        ensures at_most { result ≤ max_capacity }
+    {
+        self.entries.capacity().min(LIMIT)
+    }
+
+    /// The number of live ids. A port of `Slab::len`.
+    pub fn len(&self) -> usize
+        ensures live { result ≡ len self.now.live }
+        ensures within { result ≤ self.now.capacity }
+        ensures sound { IsSlab self.now }
+    {
+        self.len as usize
+    }
+
+    /// Whether no id is live. A port of `Slab::is_empty`.
+    pub fn is_empty(&self) -> bool
+        ensures empty { result ≡ (len self.now.live == 0) }
+    {
+        self.len == 0
+    }
+
+    /// The id that the next allocation that succeeds answers. With `MAX_CAPACITY` live ids it is 4294967294, which
+    /// is never given.
+    ///
+    /// A port of `Slab::next_id`.
+    pub fn next_id(&self) -> Id
+        ensures next { result ≡ next_id self.now.order }
+        ensures not_live { contains_key self.now.live result ≡ false }
+        ensures at_limit { len self.now.live ≡ max_capacity → result ≡ max_capacity }
+        ensures sound { IsSlab self.now }
+    {
+        Id::at(self.next)
+    }
+
+    /// Holds `value` under the next id and answers that id, or hands `value` back exactly where the live ids are as
+    /// many as the capacity. It takes no memory, and the capacity stays.
+    ///
+    /// A port of `Slab::try_alloc`.
+    pub fn try_alloc(&mut self, value: T) -> Result<Id, T>
+        ensures full { IsErr result ↔ (len self.old.live ≡ self.old.capacity) }
+        ensures never_refused_below { len self.old.live < self.old.capacity → IsOk result }
+        ensures id { IfOk result (λ id. id ≡ next_id self.old.order) }
+        ensures live { OnOk result (self.new.live ≡ insert self.old.live (next_id self.old.order) value) }
+        ensures order { OnOk result (self.new.order ≡ take_next self.old.order) }
+        ensures handed_back { IfErr result (λ back. back ≡ value) }
+        ensures refusal_leaves { OnErr result (self.new ≡ self.old) }
+        ensures capacity_stays { self.new.capacity ≡ self.old.capacity }
+    {
+        if self.len() == self.capacity() {
+            return Err(value);
+        }
+        Ok(self.take_next(value))
+    }
+
+    /// Holds `value` under the next id and answers that id. It is refused only where the live ids are as many as the
+    /// capacity: then `value` is dropped and nothing else changes. Where it asks for memory, it is for twice the
+    /// capacity, or for the greatest one.
+    ///
+    /// A port of `Slab::alloc`.
+    pub fn alloc(&mut self, value: T) -> Result<Id, OutOfMemory>
+    where
+        T: Drop,
+        requires { len self.old.live < max_capacity }
+        ensures id { IfOk result (λ id. id ≡ next_id self.old.order) }
+        ensures live { OnOk result (self.new.live ≡ insert self.old.live (next_id self.old.order) value) }
+        ensures order { OnOk result (self.new.order ≡ take_next self.old.order) }
+        ensures never_refused_below { len self.old.live < self.old.capacity → IsOk result }
+        ensures refused_only_full { OnErr result (len self.old.live ≡ self.old.capacity) }
+        ensures capacity_kept_below { len self.old.live < self.old.capacity → self.new.capacity ≡ self.old.capacity }
+        ensures capacity_never_falls { self.old.capacity ≤ self.new.capacity }
+        ensures refusal_leaves { OnErr result (self.new ≡ self.old) }
+    {
+        if self.len() == self.capacity() {
+            self.grow()?;
+        }
+        Ok(self.take_next(value))
+    }
+
+    // Makes room for twice as many values, and for 16 at least, as far as the limit allows.
+    fn grow(&mut self) -> Result<(), OutOfMemory>
+        requires { len self.old.live < max_capacity }
+        ensures same_live { self.new.live ≡ self.old.live }
+        ensures same_order { self.new.order ≡ self.old.order }
+        ensures room { OnOk result (HasRoomFor self.new 1) }
+        ensures capacity_never_falls { self.old.capacity ≤ self.new.capacity }
+        ensures refusal_leaves { OnErr result (self.new ≡ self.old) }
+    {
+        let doubled = self.capacity().max(MIN_CAPACITY);
+        self.reserve(doubled.min(LIMIT - self.len()))
+    }
+
+    // An allocation where there is room.
+    fn take_next(&mut self, value: T) -> Id
+        requires { HasRoomFor self.old 1 }
+        ensures id { result ≡ next_id self.old.order }
+        ensures live { self.new.live ≡ insert self.old.live (next_id self.old.order) value }
+        ensures order { self.new.order ≡ take_next self.old.order }
+        ensures capacity { self.new.capacity ≡ self.old.capacity }
+    {
+        let next = self.next;
+        self.len += 1;
+        self.fresh = self.fresh.max(next + 1);
+        if next as usize == self.entries.len() {
+            self.entries.push_reserved(Entry::Occupied(value));
+            self.next = next + 1;
+            return Id::at(next);
+        }
+        match mem::replace(&mut self.entries[next as usize], Entry::Occupied(value)) {
+            Entry::Vacant(after) => self.next = after,
+            Entry::Occupied(_) => unreachable!(),
+        }
+        Id::at(next)
+    }
+
+    /// The value held under `id`, or `None` exactly where `id` isn't live. A port of `Slab::get`.
+    pub fn get(&self, id: Id) -> Option<&T>
+        ensures live { IsSome result ↔ IsLive self.now id }
+        ensures value { option_copied result ≡ get self.now.live id }
+    {
+        match self.entries.get(id.place()) {
+            Some(Entry::Occupied(value)) => Some(value),
+            Some(Entry::Vacant(_)) => None,
+            None => None,
+        }
+    }
+
+    /// Whether `id` is live. A port of `Slab::contains`.
+    pub fn contains(&self, id: Id) -> bool
+        ensures live { result ≡ contains_key self.now.live id }
+    {
+        self.get(id).is_some()
+    }
+
+    /// Takes out the value held under `id`, which must be live, and gives `id` back: it is the id of the next
+    /// allocation. The capacity stays.
+    ///
+    /// A port of `Slab::dealloc`.
+    pub fn dealloc(&mut self, id: Id) -> T
+        requires { IsLive self.old id }
+        ensures value { get self.old.live id ≡ Some result }
+        ensures live { self.new.live ≡ remove self.old.live id }
+        ensures order { self.new.order ≡ give_back self.old.order id }
+        ensures capacity_stays { self.new.capacity ≡ self.old.capacity }
+    {
+        let place = id.into_raw();
+        let vacant = Entry::Vacant(self.next);
+        match mem::replace(&mut self.entries[place as usize], vacant) {
+            Entry::Occupied(value) => {
+                self.fresh = fresh_after(self.fresh, self.len, place);
+                self.next = place;
+                self.len -= 1;
+                value
+            }
+            Entry::Vacant(_) => unreachable!(),
+        }
+    }
+}
+
+// The first fresh id once `id` is given back, where so many ids are live. With as many as the first fresh id no id
+// below it is vacant.
+fn fresh_after(fresh: u32, live: u32, id: u32) -> u32
+    requires { id < fresh }
+    ensures { result ≡ (if (live == fresh) && (id + 1 == fresh) then id else fresh) }
+{
+    if live == fresh && id + 1 == fresh {
+        return id;
+    }
+    fresh
 }

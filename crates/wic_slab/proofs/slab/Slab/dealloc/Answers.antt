@@ -1,0 +1,47 @@
+use Rattle.std.proofs.Common.{Some, sym, ap, ◌∙◌, arith, length-set}
+use Rattle.std.proofs.lemmas.Option.{slice_get_within}
+use Rattle.wic_slab.specs.declared.slab.Entry.TheVariants.{Vacant}
+use Rattle.wic_slab.proofs.LiveLemmas.{live_value, len_of_live}
+use Rattle.wic_slab.proofs.EntryLemmas.{occupied_at, get-occupied, live_of-vacant}
+use Rattle.wic_slab.proofs.SoundLemmas.{vacated, vacated_order}
+use Rattle.wic_slab.proofs.slab.Slab.dealloc.Goals as goal
+
+pub overflow_sub-self : goal.overflow_sub-self
+overflow_sub-self g c =
+    let live = rw (← c.self.view_is) at c.requires in
+    omega (arith, c.self.invariant.0.counted, len_of_live _ _ live)
+
+pub invariant_of-self : goal.invariant_of-self
+invariant_of-self g c =
+    let live = rw (← c.self.view_is) at c.requires in
+    let found = live_value _ _ live in
+    let as_long = length-set c.self.inside.entries.items c.args.id (Vacant c.self.inside.next) in
+    rw (c.replace.ensures.after, c.fresh_after-self-inside.ensures, c.into_raw-place.ensures.number)
+    (vacated _ _ _ c.self.inside.fresh c.args.id found.0 c.self.invariant.0 found.1, omega (arith, c.self.invariant.1))
+
+pub unreachable-requires : goal.unreachable-requires
+unreachable-requires g c =
+    let live = rw (← c.self.view_is) at c.requires in
+    let found = live_value _ _ live in
+    let occupied = occupied_at c.self.inside.entries.items c.args.id found.0 found.1 in
+    let vacant = rw c.into_raw-place.ensures.number at (c.index_mut.ensures.item ∙ ap Some (sym c.replace.ensures.value ∙ c.in-Vacant.is)) in
+    cc (occupied, vacant)
+
+pub returns-clause-value : goal.returns-clause-value
+returns-clause-value g c =
+    let occupied = rw c.into_raw-place.ensures.number at (c.index_mut.ensures.item ∙ ap Some (sym c.replace.ensures.value ∙ c.in-Occupied.is)) in
+    rw (← c.self.view_is) (get-occupied c.self.inside.entries.items c.args.id c.in-Occupied.value occupied)
+
+pub returns-clause-live : goal.returns-clause-live
+returns-clause-live g c =
+    let live = rw (← c.self.view_is) at c.requires in
+    let found = live_value _ _ live in
+    let within = slice_get_within c.self.inside.entries.items c.args.id _ (occupied_at c.self.inside.entries.items c.args.id found.0 found.1) in
+    rw (c.replace.ensures.after, c.into_raw-place.ensures.number, ← c.self.view_is) (live_of-vacant c.self.inside.entries.items c.args.id c.self.inside.next within)
+
+pub returns-clause-order : goal.returns-clause-order
+returns-clause-order g c =
+    let live = rw (← c.self.view_is) at c.requires in
+    let found = live_value _ _ live in
+    rw (c.replace.ensures.after, c.fresh_after-self-inside.ensures, c.into_raw-place.ensures.number, ← c.self.view_is)
+    (vacated_order _ _ _ c.self.inside.fresh c.args.id found.0 c.self.invariant.0 found.1)
