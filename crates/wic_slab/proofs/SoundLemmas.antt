@@ -9,7 +9,7 @@ use Rattle.std.specs.FinMap.{empty, get, insert, remove, contains_key, len, get-
 use Rattle.wic_slab.specs.declared.slab.Entry.{Entry}
 use Rattle.wic_slab.specs.declared.slab.Entry.TheVariants.{Vacant, Occupied}
 use Rattle.wic_slab.specs.Order.{Order, max_capacity, from_zero, next_id, take_from, take_next, give_to, give_back, is_vacant, BelongsTo}
-use Rattle.wic_slab.specs.Slab.{IsSlab}
+use Rattle.wic_slab.specs.Slab.{Slab, IsSlab, with_value}
 use Rattle.wic_slab.specs.Entry.{vacant_places, link_of, live_of, chain, order_of, Links, IsSound}
 use Rattle.wic_slab.proofs.LiveLemmas.{len-insert_new, len-insert_again, len-remove_live, len_of_live, contains_key-insert_again, same_live}
 use Rattle.wic_slab.proofs.OrderLemmas.{nat_eq_same, nat_eq_other, neither, nor, next_id_not_live, live_below, live_not_vacant, IsOrder-take_next, IsOrder-give_back, BelongsTo-take_next, BelongsTo-give_back, taken_not_vacant, taken_below_fresh, fresh_taken, total_taken, total_given, fresh_given, fresh_given_le, from_zero-IsOrder}
@@ -297,3 +297,16 @@ module _ {X : Type 0} where
   vacated_order es count next fresh id value sound found =
       let o = order_of es next count fresh in
       same_order _ _ _ _ _ (IsSound-vacate es count next id o value sound found) (sym (fresh_given o count id sound.total))
+
+  -- the fields as they are once the value of a live id is written anew
+  pub rewritten : (es : List (Entry X)) (count next fresh id : ℕ) (old new : X) → IsSound es count next (order_of es next count fresh) → get (live_of es) id ≡ Some old → IsSound (set es id (Occupied new)) count next (order_of (set es id (Occupied new)) next count fresh)
+  rewritten es count next fresh id old new sound found =
+      sound_again _ _ _ fresh _ (IsSound-rewrite es count next id _ old new sound found) refl
+
+  -- what contracts see of the slab then
+  pub rewritten_view : (es : List (Entry X)) (count next fresh id capacity : ℕ) (old new : X) → IsSound es count next (order_of es next count fresh) → get (live_of es) id ≡ Some old → ◌≡◌ {A = Slab X} (record { live = live_of (set es id (Occupied new)); order = order_of (set es id (Occupied new)) next count fresh; capacity = capacity }) (with_value (record { live = live_of es; order = order_of es next count fresh; capacity = capacity }) id new)
+  rewritten_view es count next fresh id capacity old new sound found =
+      let within = slice_get_within es id _ (occupied_at es id old found) in
+      let live = live_of-occupied es id new within in
+      let order = same_order _ _ _ fresh _ (IsSound-rewrite es count next id _ old new sound found) refl in
+      λ i. record { live = live i; order = order i; capacity = capacity }

@@ -1,7 +1,7 @@
 -- What a contract sees of a `Slab`.
 use Rattle.std.specs.Prelude.{ℕ, ◌+◌, ◌≤◌, List, IsTrue, refl}
 use Rattle.std.specs.Ordering.{nat_cmp}
-use Rattle.std.specs.FinMap.{FinMap, code, contains_key, len}
+use Rattle.std.specs.FinMap.{FinMap, code, contains_key, insert, len}
 use Rattle.std.specs.Coded.{Coded, code_by, coded×, coded_ℕ, coded_list}
 use Rattle.wic_slab.specs.Order.{Order, max_capacity, IsOrder, BelongsTo}
 
@@ -30,6 +30,10 @@ module _ {T : Type 0} where
   -- so many more values fit with no request for memory
   abbrev pub HasRoomFor : Slab T → ℕ → Type 0
   HasRoomFor s more = len s.live + more ≤ s.capacity
+
+  -- the slab with this value under the id, where there was one
+  abbrev pub with_value : Slab T → ℕ → T → Slab T
+  with_value s id value = record s { live = insert s.live id value }
 
   -- what is true of every slab: its order is one, and the order's of its live ids; they fit, and the capacity has
   -- its limit

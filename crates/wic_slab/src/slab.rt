@@ -1,5 +1,7 @@
 //! Values under ids that the slab hands out.
 ghost use Rattle.std.specs.Prelude.{◌≡◌, ◌+◌, ◌<◌, ◌≤◌, ◌==◌, ◌↔◌, ◌&&◌, if◌then◌else◌, Some, false, IsTrue, IsOk, IsErr, IsSome, IfOk, IfErr, OnOk, OnErr, option_copied};
+ghost use Rattle.std.specs.Option.{option_copied_mut};
+ghost use Rattle.std.specs.Borrow.{Lends, sem};
 ghost use Rattle.std.specs.FinMap.{empty, get, insert, remove, contains_key, len};
 ghost use Rattle.wic_slab.specs.Order.{max_capacity, from_zero, next_id, take_next, give_back};
 ghost use Rattle.wic_slab.specs.Slab.{IsLive, HasRoomFor, IsSlab};
@@ -8,6 +10,7 @@ use crate::id::Id;
 use std::alloc::Global;
 use std::marker::Model;
 use std::mem;
+use std::ops::{Index, IndexMut};
 use wic_base::OutOfMemory;
 use wic_vec::TryVec;
 
@@ -56,6 +59,23 @@ impl<T> Model for Slab<T> {
         × (length s.entries.items ≤ s.entries.capacity) };
 }
 
+impl<T> Entry<T> {
+    ghost use Rattle.wic_slab.specs.Entry.{value_of};
+    ghost use Rattle.wic_slab.specs.contracts.slab.Entry.{the_row};
+
+    // The value of an occupied entry.
+    fn value_mut(&mut self) -> &mut T
+        requires { IsSome (value_of self.old) }
+        ensures* writes_back { sem 𝓛 (Lends (the_row T.row) T.row self.entry result Entry.Occupied) }
+        ensures value { value_of self.old ≡ Some result.now }
+    {
+        match self {
+            Entry::Occupied(value) => value,
+            Entry::Vacant(_) => unreachable!(),
+        }
+    }
+}
+
 // What the first growth makes room for.
 const MIN_CAPACITY: usize = 16;
 
@@ -63,6 +83,8 @@ const MIN_CAPACITY: usize = 16;
 const LIMIT: usize = 4294967294;
 
 impl<T> Slab<T> {
+    ghost use Rattle.wic_slab.specs.Lends.{lends_get, lends_value};
+
     /// The greatest capacity, and so the greatest number of values. A port of `Slab::MAX_CAPACITY`.
     pub const MAX_CAPACITY: usize = LIMIT;
 
@@ -255,6 +277,31 @@ impl<T> Slab<T> {
         }
     }
 
+    /// The value held under `id`, to be read and written, or `None` exactly where `id` isn't live. What is written
+    /// is the value that `id` then has. All else stays, and at `None` all does.
+    ///
+    /// A port of `Slab::get_mut`.
+    pub fn get_mut(&mut self, id: Id) -> Option<&mut T>
+        ensures* writes_back { sem 𝓛 (lends_get T.row self.entry id result) }
+        ensures live { IsSome result ↔ IsLive self.old id }
+        ensures value { option_copied_mut result ≡ get self.old.live id }
+    {
+        if self.contains(id) {
+            Some(self.value_mut(id))
+        } else {
+            None
+        }
+    }
+
+    // The value of a live id.
+    fn value_mut(&mut self, id: Id) -> &mut T
+        requires { IsLive self.old id }
+        ensures* writes_back { sem 𝓛 (lends_value T.row self.entry id result) }
+        ensures value { get self.old.live id ≡ Some result.now }
+    {
+        self.entries[id.place()].value_mut()
+    }
+
     /// Whether `id` is live. A port of `Slab::contains`.
     pub fn contains(&self, id: Id) -> bool
         ensures live { result ≡ contains_key self.now.live id }
@@ -284,6 +331,49 @@ impl<T> Slab<T> {
             }
             Entry::Vacant(_) => unreachable!(),
         }
+    }
+}
+
+impl<T: Drop> Slab<T> {
+    /// Drops all values. No id is live then, ids start at 0 again, and the capacity stays.
+    ///
+    /// A port of `Slab::clear`.
+    pub fn clear(&mut self)
+        ensures empty { self.new.live ≡ empty }
+        ensures order { self.new.order ≡ from_zero }
+        ensures capacity_stays { self.new.capacity ≡ self.old.capacity }
+    {
+        self.entries.clear();
+        self.next = 0;
+        self.fresh = 0;
+        self.len = 0;
+    }
+}
+
+/// The value held under a live id. A port of `Slab`'s `Index<Id>`.
+impl<T> Index<Id> for Slab<T> {
+    type Output = T;
+
+    ghost can_index = { IsLive };
+
+    ghost index_gives = { λ s id value. get s.live id ≡ Some value };
+
+    fn index(&self, id: Id) -> &T {
+        self.get(id).unwrap()
+    }
+}
+
+/// The value held under a live id, to be read and written. What is written is the value that the id then has, and
+/// all else stays. A port of `Slab`'s `IndexMut<Id>`.
+impl<T> IndexMut<Id> for Slab<T> {
+    ghost use Rattle.wic_slab.specs.Lends.{lends_value};
+
+    fn index_mut(&mut self, id: Id) -> &mut T
+        requires { IsLive self.old id }
+        ensures* writes_back { sem 𝓛 (lends_value T.row self.entry id result) }
+        ensures value { get self.old.live id ≡ Some result.now }
+    {
+        self.value_mut(id)
     }
 }
 
