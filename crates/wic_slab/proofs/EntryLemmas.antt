@@ -12,11 +12,15 @@ use Rattle.wic_slab.specs.declared.slab.Entry.TheVariants.{Vacant, Occupied}
 use Rattle.wic_slab.specs.Entry.{value_of, pairs_from, live_of}
 use Rattle.wic_slab.proofs.LiveLemmas.{tied_same, tied_other, get-insert_same, get-insert_other, get-remove_same, get-remove_other, same_live}
 
-both : (a b : Bool) → T a → T b → T (a && b)
+pub true_from_T : (b : Bool) → T b → b ≡ true
+true_from_T true p = refl
+true_from_T false p = absurd p
+
+pub both : (a b : Bool) → T a → T b → T (a && b)
 both true b p q = q
 both false b p q = p
 
-less : (a b : ℕ) → a < b → T (is_lt (nat_cmp a b))
+pub less : (a b : ℕ) → a < b → T (is_lt (nat_cmp a b))
 less a b below = grind (arith, nat_tests)
 
 module _ {X : Type 0} where

@@ -1,3 +1,4 @@
+pub mod DrainLemmas
 pub mod EntryLemmas
 pub mod LiveLemmas
 pub mod OrderLemmas

@@ -1,4 +1,5 @@
 -- What contracts see of a slab, the order in which it hands out its ids, and the laws of that order.
+pub mod Drain
 pub mod Entry
 pub mod Laws
 pub mod Lends

@@ -1,10 +1,14 @@
 //! Values under ids, which are handed out in a stated order.
 #![tactic(auto)]
 
+mod drain;
 mod id;
+mod iter;
 pub mod laws;
 mod slab;
 
+pub use drain::Drain;
 pub use id::Id;
+pub use iter::Iter;
 pub use laws::{law_give_back, law_take_back};
 pub use slab::Slab;

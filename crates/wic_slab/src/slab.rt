@@ -21,7 +21,7 @@ use wic_vec::TryVec;
 /// first. A port of `wasmtime_internal_core::slab::Slab`.
 #[derive(Drop)]
 pub struct Slab<T> {
-    entries: TryVec<Entry<T>>,
+    pub(crate) entries: TryVec<Entry<T>>,
     // The first entry of the list of vacant ones, or the number of entries where none is vacant.
     next: u32,
     // The first fresh id. It and the entries above it were never taken, or are as if they had not been.
@@ -291,6 +291,14 @@ impl<T> Slab<T> {
         } else {
             None
         }
+    }
+
+    // A number that all live ids are below.
+    pub(crate) fn first_fresh(&self) -> u32
+        ensures fresh { result ≡ self.now.order.fresh }
+        ensures sound { IsSlab self.now }
+    {
+        self.fresh
     }
 
     // The value of a live id.
