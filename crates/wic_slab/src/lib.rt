@@ -6,6 +6,8 @@ mod id;
 mod iter;
 pub mod laws;
 mod slab;
+#[cfg(test)]
+mod tests;
 
 pub use drain::Drain;
 pub use id::Id;

@@ -8,8 +8,9 @@ ghost use Rattle.wic_slab.specs.Slab.{IsLive, HasRoomFor, IsSlab};
 
 use crate::id::Id;
 use std::alloc::Global;
+use std::fmt;
 use std::marker::Model;
-use std::mem;
+use std::mem::{self, size_of};
 use std::ops::{Index, IndexMut};
 use wic_base::OutOfMemory;
 use wic_vec::TryVec;
@@ -138,7 +139,7 @@ impl<T> Slab<T> {
         ensures capacity_never_falls { self.old.capacity ≤ self.new.capacity }
         ensures refusal_leaves { OnErr result (self.new ≡ self.old) }
     {
-        let wanted = self.len as usize + additional;
+        let wanted = self.len() + additional;
         if wanted <= self.entries.capacity() {
             return Ok(());
         }
@@ -223,10 +224,13 @@ impl<T> Slab<T> {
         ensures capacity_never_falls { self.old.capacity ≤ self.new.capacity }
         ensures refusal_leaves { OnErr result (self.new ≡ self.old) }
     {
-        if self.len() == self.capacity() {
-            self.grow()?;
+        match self.try_alloc(value) {
+            Ok(id) => Ok(id),
+            Err(value) => {
+                self.grow()?;
+                Ok(self.take_next(value))
+            }
         }
-        Ok(self.take_next(value))
     }
 
     // Makes room for twice as many values, and for 16 at least, as far as the limit allows.
@@ -384,6 +388,16 @@ impl<T> IndexMut<Id> for Slab<T> {
         self.value_mut(id)
     }
 }
+
+/// The live ids, each with its value. A port of `Slab`'s `Debug`.
+impl<T: fmt::Debug> fmt::Debug for Slab<T> {
+    fn fmt<W: fmt::Write>(&self, f: &mut fmt::Formatter<W>) -> fmt::Result {
+        f.debug_map().entries(self.iter()).finish()
+    }
+}
+
+// An entry of a number of eight bytes takes no more than sixteen.
+const _: () = prove!(size_of::<Entry<u64>>() <= 16);
 
 // The first fresh id once `id` is given back, where so many ids are live. With as many as the first fresh id no id
 // below it is vacant.
