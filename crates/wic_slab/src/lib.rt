@@ -4,6 +4,7 @@
 mod drain;
 mod id;
 mod iter;
+mod iter_mut;
 pub mod laws;
 mod slab;
 #[cfg(test)]
@@ -12,5 +13,6 @@ mod tests;
 pub use drain::Drain;
 pub use id::Id;
 pub use iter::Iter;
+pub use iter_mut::IterMut;
 pub use laws::{law_give_back, law_take_back};
 pub use slab::Slab;

@@ -306,7 +306,7 @@ impl<T> Slab<T> {
     }
 
     // The value of a live id.
-    fn value_mut(&mut self, id: Id) -> &mut T
+    pub(crate) fn value_mut(&mut self, id: Id) -> &mut T
         requires { IsLive self.old id }
         ensures* writes_back { sem 𝓛 (lends_value T.row self.entry id result) }
         ensures value { get self.old.live id ≡ Some result.now }

@@ -148,6 +148,23 @@ fn values_are_written_in_place(rt: HostRuntime) -> Result<(), Fail> {
 }
 
 #[test]
+fn a_walk_writes_each_value(rt: HostRuntime) -> Result<(), Fail> {
+    let mut slab = three(&rt, rt.alloc())?;
+    take(&rt, &mut slab, 0)?;
+    let mut walk = slab.iter_mut();
+    let mut ids = 0u64;
+    while let Some(id) = walk.next_id() {
+        ids = ids.saturating_mul(10).saturating_add(id.into_raw() as u64);
+        let value = walk.value_mut(id);
+        *value = value.saturating_add(10);
+    }
+    assert_eq!(rt; ids, 12);
+    assert_eq!(rt; take(&rt, &mut slab, 1)?, 21);
+    assert_eq!(rt; take(&rt, &mut slab, 2)?, 22);
+    Ok(())
+}
+
+#[test]
 fn the_greatest_id(rt: HostRuntime) {
     assert_eq!(rt;
         Id::try_from_raw(4294967294).map(Id::into_raw),
