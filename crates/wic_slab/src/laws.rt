@@ -1,6 +1,6 @@
 //! Laws of the order in which ids are handed out. They speak of the definitions that the contracts of `Slab`
 //! cite, and no call of this module does anything.
-ghost use Rattle.wic_slab.specs.Laws.{AllocationUndoesGivingBack, GivingBackUndoesAllocation};
+ghost use Rattle.wic_slab.specs.Laws.{AllocationUndoesGivingBack, GivingBackUndoesAllocation, StaysAnOrder};
 
 /// After a live id is given back, the next allocation answers that id. Where it is of the value that was held
 /// under the id, the live ids with their values and the hand-out order are as before both.
@@ -17,4 +17,12 @@ pub fn law_give_back<T>()
 /// the calls.
 pub fn law_take_back<T>()
     ensures { GivingBackUndoesAllocation T }
+{}
+
+/// Taking the next id, below the limit, and giving a live id back lead from an order that belongs to the live ids to
+/// one that belongs to those that are live then.
+///
+/// A law of this project's own, for layers that speak of the order over many steps.
+pub fn law_order_stays<T>()
+    ensures { StaysAnOrder T }
 {}

@@ -14,5 +14,5 @@ pub use drain::Drain;
 pub use id::Id;
 pub use iter::Iter;
 pub use iter_mut::IterMut;
-pub use laws::{law_give_back, law_take_back};
-pub use slab::Slab;
+pub use laws::{law_give_back, law_order_stays, law_take_back};
+pub use slab::{MAX_CAPACITY, Slab};

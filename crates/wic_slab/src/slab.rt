@@ -80,14 +80,15 @@ impl<T> Entry<T> {
 // What the first growth makes room for.
 const MIN_CAPACITY: usize = 16;
 
-// `Slab::MAX_CAPACITY`, for every type of value.
-const LIMIT: usize = 4294967294;
+/// The greatest capacity of a slab, and so the greatest number of its values. A caller's proof knows this number; that
+/// of `Slab::MAX_CAPACITY`, which is the same for every type of value, it doesn't.
+pub const MAX_CAPACITY: usize = 4294967294;
 
 impl<T> Slab<T> {
     ghost use Rattle.wic_slab.specs.Lends.{lends_get, lends_value};
 
     /// The greatest capacity, and so the greatest number of values. A port of `Slab::MAX_CAPACITY`.
-    pub const MAX_CAPACITY: usize = LIMIT;
+    pub const MAX_CAPACITY: usize = MAX_CAPACITY;
 
     /// The empty slab, of capacity 0, whose ids start at 0. It takes no memory.
     ///
@@ -154,7 +155,7 @@ impl<T> Slab<T> {
         ensures holds_all { len self.now.live ≤ result }
         ensures at_most { result ≤ max_capacity }
     {
-        self.entries.capacity().min(LIMIT)
+        self.entries.capacity().min(MAX_CAPACITY)
     }
 
     /// The number of live ids. A port of `Slab::len`.
@@ -243,7 +244,7 @@ impl<T> Slab<T> {
         ensures refusal_leaves { OnErr result (self.new ≡ self.old) }
     {
         let doubled = self.capacity().max(MIN_CAPACITY);
-        self.reserve(doubled.min(LIMIT - self.len()))
+        self.reserve(doubled.min(MAX_CAPACITY - self.len()))
     }
 
     // An allocation where there is room.

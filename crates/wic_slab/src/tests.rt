@@ -1,11 +1,11 @@
-use crate::{Id, Slab};
+use crate::{Id, MAX_CAPACITY, Slab};
 use std::alloc::Global;
 use std::process::Abort;
 use std::test::Fail;
 
 // Allocates, where the slab is small.
 fn put(rt: &impl Abort, slab: &mut Slab<u64>, value: u64) -> Result<u32, Fail> {
-    assert!(rt; slab.len() < 100);
+    assert!(rt; slab.len() < MAX_CAPACITY);
     Ok(slab.alloc(value)?.into_raw())
 }
 
@@ -171,7 +171,10 @@ fn the_greatest_id(rt: HostRuntime) {
         Some(4294967294)
     );
     assert!(rt; Id::try_from_raw(4294967295).is_none());
-    assert_eq!(rt; Slab::<u64>::MAX_CAPACITY, 4294967294);
+    assert_eq!(rt;
+        (Slab::<u64>::MAX_CAPACITY, MAX_CAPACITY),
+        (4294967294, 4294967294)
+    );
 }
 
 #[test]

@@ -5,7 +5,7 @@ use Rattle.wic_slab.proofs.OrderLemmas.{next_id-give_back, take_next-give_back}
 use Rattle.wic_slab.proofs.laws.law_give_back.Goals as goal
 
 pub returns : goal.returns
-returns g c order live id value valid belongs found = (
+returns g c order live id value found = (
   next_id-give_back order id,
   ap (λ q. insert (remove live id) q value) (next_id-give_back order id) ∙ insert-remove live id value found,
   take_next-give_back order id,
