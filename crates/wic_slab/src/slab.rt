@@ -208,8 +208,8 @@ impl<T> Slab<T> {
     }
 
     /// Holds `value` under the next id and answers that id. It is refused only where the live ids are as many as the
-    /// capacity: then `value` is dropped and nothing else changes. Where it asks for memory, it is for twice the
-    /// capacity, or for the greatest one.
+    /// capacity: then `value` is dropped and nothing else changes. Where it asks for memory, it is for as many values
+    /// again, and for 16 at least, as far as `MAX_CAPACITY` allows.
     ///
     /// A port of `Slab::alloc`.
     pub fn alloc(&mut self, value: T) -> Result<Id, OutOfMemory>
