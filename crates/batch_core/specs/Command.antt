@@ -1,5 +1,5 @@
 -- What a command does to the contents, what it replies, and why it may be bad.
-use Rattle.std.specs.Prelude.{List, [], ◌∷◌, ◌++◌, Option, None}
+use Rattle.std.specs.Prelude.{[], ◌∷◌, ◌++◌, Option, None}
 use Rattle.batch_core.specs.State.{Contents}
 use Rattle.batch_core.specs.declared.command.Command.{Command}
 use Rattle.batch_core.specs.declared.command.Command.TheVariants.{Push}

@@ -1,5 +1,5 @@
 -- What follows from how the program came to its status.
-use Rattle.std.proofs.Common.{◌≡◌, ◌≢◌, ◌⊎◌, ◌≤◌, ℕ, List, [], ◌++◌, length, refl, sym, ap, ◌∙◌, subst, inl, inr, arith, Option, Some}
+use Rattle.std.proofs.Common.{◌≡◌, ◌⊎◌, ◌≤◌, ℕ, List, [], ◌++◌, length, sym, ap, ◌∙◌, subst, inl, inr, arith, Option, Some}
 use Rattle.wic_vec.specs.TryString.{TryString}
 use Rattle.batch_core.specs.State.{empty_state}
 use Rattle.batch_script.specs.Attempt.{Answers, Attempts, Finishes, ReadsAll}
@@ -7,7 +7,6 @@ use Rattle.batch_script.specs.Grammar.{IsScript, IsScriptOf}
 use Rattle.batch_script.specs.RunText.{IsRunText}
 use Rattle.batch_script.specs.Headline.{Premises, RunsWhole, WantsMemory, IsNoScript, input_limit}
 use Rattle.batch_script.specs.Machine.{Item, Run}
-use Rattle.batch_script.specs.Reply.{text_of}
 use Rattle.batch_script.specs.declared.program.Status.{Status}
 use Rattle.batch_script.specs.declared.program.Status.TheVariants.{Done, Syntax, Oom, ReadFault, WriteFault, TooLong, Usage}
 use Rattle.batch_script.proofs.Prefixes.{one_script}

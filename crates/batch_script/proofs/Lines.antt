@@ -1,7 +1,7 @@
 -- Lines of an input, at its first line feed.
-use Rattle.std.proofs.Common.{◌≡◌, ◌≢◌, ℕ, ◌+◌, ◌<◌, eqb, cond, List, [], ◌∷◌, ◌++◌, length, take, drop, get_or, refl, sym, ap, ◌∙◌, subst, suc, zero, arith, eq-eqb, true, false, Bool, add-one}
+use Rattle.std.proofs.Common.{◌≡◌, ◌≢◌, ℕ, ◌+◌, ◌<◌, List, [], ◌∷◌, length, take, drop, get_or, ap, ◌∙◌, suc, zero, arith, add-one}
 use Rattle.std.proofs.lemmas.Bool.Decides.{nat_tests}
-use Rattle.batch_script.specs.Grammar.{Line, lines_of, with_byte}
+use Rattle.batch_script.specs.Grammar.{lines_of, with_byte}
 
 lines-line_feed : (x : ℕ) (xs : List ℕ) → x ≡ 10 → lines_of (x ∷ xs) ≡ [] ∷ lines_of xs
 lines-line_feed x xs e = grind (arith, nat_tests)

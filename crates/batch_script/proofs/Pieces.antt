@@ -1,5 +1,5 @@
 -- Bytes that are read and written in pieces.
-use Rattle.std.proofs.Common.{◌≡◌, ◌-◌, ◌<◌, ℕ, List, [], ◌∷◌, ◌++◌, length, take, drop, refl, sym, ap, ◌∙◌, append_assoc, Some, Option}
+use Rattle.std.proofs.Common.{◌≡◌, ◌-◌, ℕ, List, [], ◌++◌, length, take, drop, sym, ap, ◌∙◌, append_assoc, Option}
 use Rattle.std.proofs.lemmas.List.{take-append-drop, take_rest, append-nil}
 use Rattle.batch_script.specs.Device.{TakesFirst}
 

@@ -1,7 +1,7 @@
 -- The lines of a script can be cut into items in one way alone.
-use Rattle.std.proofs.Common.{◌≡◌, ◌≢◌, ◌⊎◌, ℕ, ◌+◌, ◌<◌, ◌≤◌, List, [], ◌∷◌, ◌++◌, length, get_or, take, drop, map, refl, sym, ap, ◌∙◌, subst, inl, inr, arith, append_assoc, Option, Some, None}
+use Rattle.std.proofs.Common.{◌≡◌, ◌≢◌, ◌⊎◌, ℕ, List, [], ◌∷◌, ◌++◌, get_or, drop, map, refl, sym, ap, inl, inr, arith, append_assoc}
 use Rattle.std.specs.Prelude.{codes}
-use Rattle.std.specs.List.{AllByRecursion, flat_map}
+use Rattle.std.specs.List.{AllByRecursion}
 use Rattle.std.specs.Fmt.{decimal}
 use Rattle.std.proofs.lemmas.Fmt.{decimal_injective}
 use Rattle.batch_core.specs.declared.command.Command.{Command}
@@ -9,7 +9,7 @@ use Rattle.batch_core.specs.declared.command.Command.TheVariants.{Push}
 use Rattle.batch_core.specs.declared.command.End.{End}
 use Rattle.batch_core.specs.declared.command.End.TheVariants.{Commit, Abort}
 use Rattle.batch_script.specs.Machine.{Item, batch}
-use Rattle.batch_script.specs.Grammar.{Line, IsValidItem, IsValidCommand, command_line, end_line, printed_lines, all_lines, IsOpen}
+use Rattle.batch_script.specs.Grammar.{Line, IsValidItem, IsValidCommand, command_line, end_line, all_lines}
 
 abbrev first_byte : Line → ℕ
 first_byte line = get_or line 0 0

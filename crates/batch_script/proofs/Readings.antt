@@ -1,7 +1,6 @@
 -- What a line does to what was read, and where reading stops.
-use Rattle.std.proofs.Common.{◌≡◌, ◌≢◌, ◌⊎◌, ℕ, ◌+◌, ◌<◌, ◌≤◌, List, [], ◌∷◌, ◌++◌, length, take, drop, map, refl, sym, ap, ◌∙◌, subst, inl, inr, arith, append_assoc, length-drop, take-take, Option, Some, None}
+use Rattle.std.proofs.Common.{◌≡◌, ◌≢◌, ℕ, ◌+◌, ◌<◌, ◌≤◌, List, [], ◌∷◌, ◌++◌, length, take, drop, map, sym, ap, ◌∙◌, subst, inl, inr, arith, append_assoc, length-drop, take-take, Option, Some, None}
 use Rattle.std.specs.Prelude.{codes}
-use Rattle.std.specs.List.{AllByRecursion, flat_map}
 use Rattle.std.proofs.lemmas.List.{take-append-drop, append-nil, drop-drop}
 use Rattle.std.proofs.Math.Seq.{take-add}
 use Rattle.batch_core.specs.declared.command.Command.{Command}
@@ -9,7 +8,7 @@ use Rattle.batch_core.specs.declared.command.End.{End}
 use Rattle.batch_core.specs.declared.command.End.TheVariants.{Commit}
 use Rattle.batch_script.specs.Machine.{Item, batch}
 use Rattle.batch_script.specs.Grammar.{Line, IsValidItem, IsValidCommand, command_line, end_line, printed_lines, all_lines, lines_of, IsOpen, IsScript, IsScriptOf, IsFaultLine}
-use Rattle.batch_script.specs.Reading.{AreRead, open_lines, IsValidOpen}
+use Rattle.batch_script.specs.Reading.{AreRead, open_lines}
 use Rattle.batch_script.proofs.Lists.{AllByRecursion-append, flat_map-append, map-append}
 use Rattle.batch_script.proofs.Prefixes.{rest-after_items, first_line, next_line_in_batch, begun_is_no_script, GoesOn}
 

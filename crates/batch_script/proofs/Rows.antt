@@ -1,15 +1,15 @@
 -- Worked examples of the definitions, computed.
-use Rattle.std.proofs.Common.{◌≡◌, ℕ, ◌<◌, ◌++◌, List, [], ◌∷◌, refl, arith}
+use Rattle.std.proofs.Common.{◌≡◌, ℕ, ◌++◌, List, [], ◌∷◌, refl, arith}
 use Rattle.std.specs.Prelude.{codes}
 use Rattle.std.specs.Fmt.{digits}
-use Rattle.batch_core.specs.State.{State, Contents, empty_state}
+use Rattle.batch_core.specs.State.{Contents, empty_state}
 use Rattle.batch_core.specs.Command.{pushed}
 use Rattle.batch_core.specs.Batch.{committed, aborted}
 use Rattle.batch_core.specs.Room.{Fits}
 use Rattle.batch_core.specs.declared.command.Command.TheVariants.{Push}
 use Rattle.batch_core.specs.declared.command.End.TheVariants.{Commit, Abort}
-use Rattle.batch_script.specs.Machine.{Item, Reply, Run, batch, answered, no_memory}
-use Rattle.batch_script.specs.Grammar.{Line, lines_of, all_lines, IsScriptOf}
+use Rattle.batch_script.specs.Machine.{Item, Run, batch, answered, no_memory}
+use Rattle.batch_script.specs.Grammar.{Line, lines_of, all_lines}
 use Rattle.batch_script.specs.Reply.{text_of, text_of_lines}
 
 -- a script of one batch with one push

@@ -1,5 +1,5 @@
 -- How the program comes to its status: what was to be written and why, and how the writing ended.
-use Rattle.std.specs.Prelude.{◌≡◌, ◌≢◌, ◌⊎◌, ℕ, ◌<◌, ◌≤◌, List, [], ◌++◌, length, Option, Some, OnOk, OnErr, Result}
+use Rattle.std.specs.Prelude.{◌≡◌, ◌≢◌, ◌⊎◌, ℕ, ◌≤◌, List, [], ◌++◌, length, Option, Some}
 use Rattle.wic_vec.specs.TryString.{TryString}
 use Rattle.batch_script.specs.Device.{Rose}
 use Rattle.batch_script.specs.Grammar.{IsScript}

@@ -1,5 +1,5 @@
 -- What the whole program promises: for every script the text of one run, or want of memory.
-use Rattle.std.specs.Prelude.{◌≡◌, ◌≢◌, ◌⊎◌, ℕ, ◌+◌, ◌<◌, ◌≤◌, List, [], ◌∷◌, ◌++◌, length, codes, Option, Some}
+use Rattle.std.specs.Prelude.{◌≡◌, ℕ, ◌<◌, ◌≤◌, List, [], ◌∷◌, ◌++◌, length, codes, Option, Some}
 use Rattle.std.specs.Fmt.{decimal}
 use Rattle.wic_vec.specs.TryString.{TryString}
 use Rattle.batch_core.specs.State.{empty_state}

@@ -1,7 +1,7 @@
 -- The plain machine over the items of a script.
 use Rattle.std.specs.Prelude.{⊤, ◌≡◌, ◌≢◌, ℕ, List, [], ◌∷◌}
 use Rattle.std.specs.List.{AllByRecursion}
-use Rattle.batch_core.specs.State.{State, empty_state}
+use Rattle.batch_core.specs.State.{State}
 use Rattle.batch_core.specs.Batch.{Outcome, outcome_of}
 use Rattle.batch_core.specs.Room.{Fits}
 use Rattle.batch_core.specs.declared.command.Command.{Command}

@@ -12,5 +12,5 @@ mod runner;
 
 pub use device::{Failed, Sink, Source};
 pub use memory_device::{MemSink, MemSource, PlainSource};
-pub use program::{INPUT_LIMIT, Status, top};
+pub use program::{Status, top};
 pub use runner::{RunError, run};

@@ -287,6 +287,6 @@ pub(crate) fn append(bytes: &mut TryVec<u8>, piece: &[u8])
     ensures capacity { bytes.new.capacity ≡ bytes.old.capacity }
 {
     for byte in piece {
-        bytes.push(*byte).unwrap();
+        bytes.push_reserved(*byte);
     }
 }

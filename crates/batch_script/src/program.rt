@@ -14,7 +14,7 @@ use std::alloc::Global;
 use wic_vec::{TryString, TryVec};
 
 /// The most bytes that an input may have.
-pub const INPUT_LIMIT: usize = 67108864;
+const INPUT_LIMIT: usize = 67108864;
 
 /// How many bytes are asked for at a time.
 const PIECE: usize = 4096;

@@ -277,7 +277,8 @@ impl<T> IndexMut<usize> for TryVec<T> {
     }
 }
 
-// The refusal of `additional` more elements beside `length` of them.
+// The refusal of `additional` more elements beside `length` of them. It counts elements: their size in bytes is not to
+// be had of a type parameter.
 fn wanting(length: usize, additional: usize) -> OutOfMemory {
     OutOfMemory::new(length.saturating_add(additional))
 }

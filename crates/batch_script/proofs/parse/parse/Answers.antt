@@ -1,8 +1,8 @@
-use Rattle.std.proofs.Common.{◌≡◌, ◌+◌, ◌∙◌, List, [], ◌++◌, ◌∷◌, take, drop, length, sym, subst, arith, ap, take_all, Some, length-drop, Err}
+use Rattle.std.proofs.Common.{◌≡◌, ◌∙◌, take, length, sym, subst, arith, ap, Some, length-drop, Err}
 use Rattle.std.specs.Option.{option_map}
-use Rattle.batch_script.specs.Grammar.{lines_of, Line}
+use Rattle.batch_script.specs.Grammar.{lines_of}
 use Rattle.batch_script.specs.Reading.{AreRead, plain_items}
-use Rattle.batch_script.proofs.Readings.{IsOpen-read, IsFaultLine-at, IsFaultLine-end, IsScriptOf-read, take_next, drop_next, take_to_end, begun-IsScript}
+use Rattle.batch_script.proofs.Readings.{IsOpen-read, IsFaultLine-at, IsFaultLine-end, take_next, drop_next, take_to_end, begun-IsScript}
 use Rattle.batch_script.specs.declared.parse.LineRefusal.TheVariants.{Syntax}
 use Rattle.batch_script.proofs.parse.parse.Goals as goal
 

@@ -1,5 +1,4 @@
-use Rattle.std.proofs.Common.{◌≡◌, ◌<◌, ◌∙◌, ◌++◌, ap, sym, drop, take, length, Some, arith}
-use Rattle.batch_script.specs.Device.{TakesFirst}
+use Rattle.std.proofs.Common.{◌≡◌, ◌<◌, ◌∙◌, ◌++◌, ap, drop, length, Some, arith}
 use Rattle.batch_script.proofs.Pieces.{read-more, read-all}
 use Rattle.batch_script.proofs.program.read_input.Goals as goal
 

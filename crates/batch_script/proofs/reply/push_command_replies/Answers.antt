@@ -1,4 +1,4 @@
-use Rattle.std.proofs.Common.{◌≡◌, ◌∷◌, [], ◌++◌, ◌∙◌, ap, sym, get_or, take, map, append_assoc}
+use Rattle.std.proofs.Common.{◌∷◌, [], ◌++◌, ◌∙◌, ap, sym, get_or, take, map, append_assoc}
 use Rattle.batch_core.specs.Batch.{contents_after, replies_of}
 use Rattle.batch_core.specs.Command.{reply_of}
 use Rattle.batch_core.specs.declared.command.Command.TheVariants.{Push}

@@ -1,7 +1,6 @@
 use Rattle.std.proofs.Common.{refl}
 use Rattle.std.proofs.lemmas.Result.{on_ok_weaker}
 use Rattle.batch_script.specs.Machine.{answered}
-use Rattle.batch_script.specs.Reply.{outcome_lines, text_of_lines}
 use Rattle.batch_script.specs.Step.{contents_of, outcome_done}
 use Rattle.batch_script.proofs.runner.run_batch.Goals as goal
 

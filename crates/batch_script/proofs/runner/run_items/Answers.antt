@@ -1,8 +1,8 @@
-use Rattle.std.proofs.Common.{◌≡◌, ◌∷◌, [], ◌++◌, ◌+◌, ◌∙◌, List, ap, sym, subst, get_or, take, take_all, map}
+use Rattle.std.proofs.Common.{◌≡◌, ◌∷◌, [], ◌++◌, ◌+◌, ◌∙◌, List, ap, sym, subst, take, take_all}
 use Rattle.batch_core.specs.State.{empty_state}
-use Rattle.batch_script.specs.Machine.{Item, Reply}
+use Rattle.batch_script.specs.Machine.{Item}
 use Rattle.batch_script.specs.Reading.{plain_item, plain_items}
-use Rattle.batch_script.specs.Reply.{text_of, text_of_lines, reply_lines}
+use Rattle.batch_script.specs.Reply.{text_of_lines, reply_lines}
 use Rattle.batch_script.specs.Step.{state_of}
 use Rattle.batch_script.proofs.Runs.{RunTo, RunTo-more, Run-to, text_of-more}
 use Rattle.batch_script.proofs.Lists.{map-append, take-item}

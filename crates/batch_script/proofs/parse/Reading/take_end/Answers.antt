@@ -1,4 +1,4 @@
-use Rattle.std.proofs.Common.{◌≢◌, arith, inl, inr}
+use Rattle.std.proofs.Common.{inl, inr}
 use Rattle.batch_script.specs.Reading.{plain_items}
 use Rattle.batch_script.proofs.Readings.{stuck_in_batch}
 use Rattle.batch_script.proofs.parse.Reading.take_end.Goals as goal
