@@ -81,3 +81,12 @@ module _ {T : Type 0} where
         | inl same ↦ rw same (ap is_some (get-insert_same m k v) ∙ sym live)
         | inr differs ↦ ap is_some (get-insert_other m k v q differs)
       ]
+
+  pub live_once_inserted : (m n : FinMap nat_cmp T) (k id : ℕ) (v : T) → n ≡ insert m k v → id ≡ k → contains_key n id ≡ true
+  live_once_inserted m n k id v made same = rw (made, same) (ap is_some (get-insert_same m k v))
+
+  pub one_more_inserted : (m n : FinMap nat_cmp T) (k : ℕ) (v : T) → n ≡ insert m k v → contains_key m k ≡ false → len n ≡ len m + 1
+  one_more_inserted m n k v made none = rw made (len-insert_new m k v none)
+
+  pub one_less_removed : (m n : FinMap nat_cmp T) (k : ℕ) → n ≡ remove m k → contains_key m k ≡ true → len n + 1 ≡ len m
+  one_less_removed m n k made live = rw made (omega (arith, len-remove_live m k live, len_of_live m k live))

@@ -197,6 +197,8 @@ impl<T> Slab<T> {
         ensures id { IfOk result (λ id. id ≡ next_id self.old.order) }
         ensures live { OnOk result (self.new.live ≡ insert self.old.live (next_id self.old.order) value) }
         ensures order { OnOk result (self.new.order ≡ take_next self.old.order) }
+        ensures now_live { IfOk result (IsLive self.new) }
+        ensures one_more { OnOk result (len self.new.live ≡ len self.old.live + 1) }
         ensures handed_back { IfErr result (λ back. back ≡ value) }
         ensures refusal_leaves { OnErr result (self.new ≡ self.old) }
         ensures capacity_stays { self.new.capacity ≡ self.old.capacity }
@@ -219,6 +221,8 @@ impl<T> Slab<T> {
         ensures id { IfOk result (λ id. id ≡ next_id self.old.order) }
         ensures live { OnOk result (self.new.live ≡ insert self.old.live (next_id self.old.order) value) }
         ensures order { OnOk result (self.new.order ≡ take_next self.old.order) }
+        ensures now_live { IfOk result (IsLive self.new) }
+        ensures one_more { OnOk result (len self.new.live ≡ len self.old.live + 1) }
         ensures never_refused_below { len self.old.live < self.old.capacity → IsOk result }
         ensures refused_only_full { OnErr result (len self.old.live ≡ self.old.capacity) }
         ensures capacity_kept_below { len self.old.live < self.old.capacity → self.new.capacity ≡ self.old.capacity }
@@ -253,6 +257,8 @@ impl<T> Slab<T> {
         ensures id { result ≡ next_id self.old.order }
         ensures live { self.new.live ≡ insert self.old.live (next_id self.old.order) value }
         ensures order { self.new.order ≡ take_next self.old.order }
+        ensures now_live { IsLive self.new result }
+        ensures one_more { len self.new.live ≡ len self.old.live + 1 }
         ensures capacity { self.new.capacity ≡ self.old.capacity }
     {
         let next = self.next;
@@ -331,6 +337,8 @@ impl<T> Slab<T> {
         ensures value { get self.old.live id ≡ Some result }
         ensures live { self.new.live ≡ remove self.old.live id }
         ensures order { self.new.order ≡ give_back self.old.order id }
+        ensures comes_next { next_id self.new.order ≡ id }
+        ensures one_less { len self.new.live + 1 ≡ len self.old.live }
         ensures capacity_stays { self.new.capacity ≡ self.old.capacity }
     {
         let place = id.into_raw();

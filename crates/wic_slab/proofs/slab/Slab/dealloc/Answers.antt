@@ -1,7 +1,9 @@
 use Rattle.std.proofs.Common.{Some, sym, ap, ◌∙◌, arith, length-set}
 use Rattle.std.proofs.lemmas.Option.{slice_get_within}
 use Rattle.wic_slab.specs.declared.slab.Entry.TheVariants.{Vacant}
-use Rattle.wic_slab.proofs.LiveLemmas.{live_value, len_of_live}
+use Rattle.wic_slab.proofs.LiveLemmas.{live_value, len_of_live, one_less_removed}
+use Rattle.wic_slab.specs.Order.{next_id}
+use Rattle.wic_slab.proofs.OrderLemmas.{next_id-give_back}
 use Rattle.wic_slab.proofs.EntryLemmas.{occupied_at, get-occupied, live_of-vacant}
 use Rattle.wic_slab.proofs.SoundLemmas.{vacated, vacated_order}
 use Rattle.wic_slab.proofs.slab.Slab.dealloc.Goals as goal
@@ -45,3 +47,9 @@ returns-clause-order g c =
     let found = live_value _ _ live in
     rw (c.replace.ensures.after, c.fresh_after-self-inside.ensures, c.into_raw-place.ensures.number, ← c.self.view_is)
     (vacated_order _ _ _ c.self.inside.fresh c.args.id found.0 c.self.invariant.0 found.1)
+
+pub returns-clause-comes_next : goal.returns-clause-comes_next
+returns-clause-comes_next g c = ap next_id (returns-clause-order g c) ∙ next_id-give_back c.args.self.now.order c.args.id
+
+pub returns-clause-one_less : goal.returns-clause-one_less
+returns-clause-one_less g c = one_less_removed _ _ c.args.id (returns-clause-live g c) c.requires
