@@ -1,6 +1,8 @@
 //! Values under ids, which are handed out in a stated order.
 #![tactic(auto)]
 
+#[cfg(test)]
+mod callers;
 mod drain;
 mod id;
 mod iter;

@@ -1,3 +1,4 @@
+use crate::callers::{hold_for_a_while, take_for_a_while};
 use crate::{Id, MAX_CAPACITY, Slab};
 use std::alloc::Global;
 use std::process::Abort;
@@ -161,6 +162,21 @@ fn a_walk_writes_each_value(rt: HostRuntime) -> Result<(), Fail> {
     assert_eq!(rt; ids, 12);
     assert_eq!(rt; take(&rt, &mut slab, 1)?, 21);
     assert_eq!(rt; take(&rt, &mut slab, 2)?, 22);
+    Ok(())
+}
+
+#[test]
+fn what_is_undone_leaves_no_trace(rt: HostRuntime) -> Result<(), Fail> {
+    let mut slab = three(&rt, rt.alloc())?;
+    assert!(rt; slab.len() < MAX_CAPACITY);
+    hold_for_a_while(&mut slab, 13)?;
+    let id = id_of(1)?;
+    assert!(rt; slab.contains(id));
+    take_for_a_while(&mut slab, id)?;
+    assert_eq!(rt;
+        (slab.get(id).copied(), slab.next_id().into_raw()),
+        (Some(11), 3)
+    );
     Ok(())
 }
 
