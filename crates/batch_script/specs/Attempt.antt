@@ -3,7 +3,7 @@ use Rattle.std.specs.Prelude.{◌≡◌, ◌≢◌, ◌⊎◌, ℕ, ◌≤◌, L
 use Rattle.wic_vec.specs.TryString.{TryString}
 use Rattle.batch_script.specs.Device.{Rose}
 use Rattle.batch_script.specs.Grammar.{IsScript}
-use Rattle.batch_script.specs.Headline.{Tells, ReadsToEnd, IsNoScript, IsBeyondLimit, input_limit}
+use Rattle.batch_script.specs.Headline.{Tells, ReadsToEnd, IsNoScript, IsBeyondLimit, IsWithinLimit, input_limit}
 use Rattle.batch_script.specs.declared.program.Status.{Status}
 use Rattle.batch_script.specs.declared.program.Status.TheVariants.{Done, Syntax, Oom, ReadFault, WriteFault, TooLong, Usage}
 use Rattle.batch_script.specs.declared.program.ReadEnd.{ReadEnd}
@@ -52,7 +52,7 @@ Answers Usage input text = ⊥
 -- Why a text is to be written with a status, by the words and what was read of the source.
 abbrev pub Attempts : Status → List TryString → Option (List ℕ) → Option (List ℕ) → ℕ → ℕ → List ℕ → Type 0
 Attempts Done words left left_after before after text =
-    (words ≡ []) × ReadsToEnd left left_after × (after ≡ before) × Tells Done left text
+    (words ≡ []) × ReadsToEnd left left_after × IsWithinLimit left × (after ≡ before) × Tells Done left text
 Attempts Syntax words left left_after before after text =
     (words ≡ []) × IsNoScript left × (after ≡ before) × Tells Syntax left text
 Attempts Oom words left left_after before after text = (words ≡ []) × Tells Oom left text

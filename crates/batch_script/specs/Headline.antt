@@ -67,6 +67,10 @@ ReadsToEnd left left_after = (input : List ℕ) → left ≡ Some input → left
 abbrev pub IsNoScript : Option (List ℕ) → Type 0
 IsNoScript left = (input : List ℕ) → left ≡ Some input → (length input ≤ input_limit) × (¬ IsScript input)
 
+-- where the source tells its bytes, they are within the limit
+abbrev pub IsWithinLimit : Option (List ℕ) → Type 0
+IsWithinLimit left = (input : List ℕ) → left ≡ Some input → length input ≤ input_limit
+
 -- where the source tells its bytes, they are more than the limit
 abbrev pub IsBeyondLimit : Option (List ℕ) → Type 0
 IsBeyondLimit left = (input : List ℕ) → left ≡ Some input → input_limit < length input

@@ -3,7 +3,7 @@ ghost use Rattle.std.specs.Prelude.{◌≡◌, ◌≢◌, ◌⊎◌, ◌+◌, �
 ghost use Rattle.batch_script.specs.Attempt.{Answers, Attempts, Finishes, IsReadEnd, ReadsAll, WritesFront, WritesWhole};
 ghost use Rattle.batch_script.specs.Device.{Rose};
 ghost use Rattle.batch_script.specs.Grammar.{IsScript, IsFaultLine};
-ghost use Rattle.batch_script.specs.Headline.{Gains, IsBeyondLimit, IsNoScript, Premises, ReadsToEnd, RunsWhole, WantsMemory, input_limit};
+ghost use Rattle.batch_script.specs.Headline.{Gains, IsBeyondLimit, IsNoScript, IsWithinLimit, Premises, ReadsToEnd, RunsWhole, WantsMemory, input_limit};
 ghost use Rattle.batch_script.specs.Machine.{Item};
 ghost use Rattle.batch_script.specs.declared.program.Status.{Status};
 
@@ -184,6 +184,7 @@ pub fn top<S: Source, K: Sink>(
 
     // When each status comes.
     ensures done { result ≡ Status.Done → (words.now.items ≡ []) × ReadsToEnd (S.left source.old) (S.left source.new)
+        × IsWithinLimit (S.left source.old)
         × (S.faults source.new ≡ S.faults source.old) × (K.faults sink.new ≡ K.faults sink.old) }
     ensures syntax { result ≡ Status.Syntax → (words.now.items ≡ []) × IsNoScript (S.left source.old)
         × (S.faults source.new ≡ S.faults source.old) × (K.faults sink.new ≡ K.faults sink.old) }
@@ -196,6 +197,10 @@ pub fn top<S: Source, K: Sink>(
     ensures write_fault { result ≡ Status.WriteFault → Rose (K.faults sink.old) (K.faults sink.new) }
     ensures too_long { result ≡ Status.TooLong → (words.now.items ≡ []) × IsBeyondLimit (S.left source.old)
         × (S.faults source.new ≡ S.faults source.old) × (K.faults sink.new ≡ K.faults sink.old) }
+    ensures too_long_enough { (input : List ℕ) → words.now.items ≡ [] → S.left source.old ≡ Some input
+        → input_limit < length input
+        → ¬ Rose (S.faults source.old) (S.faults source.new) → ¬ Rose (K.faults sink.old) (K.faults sink.new)
+        → (result ≡ Status.TooLong) ⊎ (result ≡ Status.Oom) }
     ensures usage { result ≡ Status.Usage → (words.now.items ≢ []) × (K.faults sink.new ≡ K.faults sink.old) }
     ensures usage_enough { words.now.items ≢ [] → ¬ Rose (K.faults sink.old) (K.faults sink.new) → result ≡ Status.Usage }
     ensures usage_reads_nothing { words.now.items ≢ [] → (S.left source.new ≡ S.left source.old) × (S.faults source.new ≡ S.faults source.old) }
