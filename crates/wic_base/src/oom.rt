@@ -1,5 +1,5 @@
 //! Want of memory.
-ghost use Rattle.std.specs.Prelude.{◌≡◌, ◌≤◌, min};
+ghost use Rattle.std.specs.Prelude.{◌≡◌, ◌≤◌, min, Some};
 
 use std::fmt;
 use std::marker::Model;
@@ -51,6 +51,10 @@ impl OutOfMemory {
 }
 
 impl fmt::Display for OutOfMemory {
+    ghost use Rattle.wic_base.specs.OutOfMemory.{text_of};
+
+    ghost output = { λ size. Some (text_of size) };
+
     fn fmt<W: fmt::Write>(&self, f: &mut fmt::Formatter<W>) -> fmt::Result {
         write!(
             f,

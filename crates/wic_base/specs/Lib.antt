@@ -1,0 +1,2 @@
+-- The text of want of memory.
+pub mod OutOfMemory
