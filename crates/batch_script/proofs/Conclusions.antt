@@ -5,7 +5,8 @@ use Rattle.batch_core.specs.State.{empty_state}
 use Rattle.batch_script.specs.Attempt.{Answers, Attempts, Finishes, ReadsAll}
 use Rattle.batch_script.specs.Grammar.{IsScript, IsScriptOf}
 use Rattle.batch_script.specs.RunText.{IsRunText}
-use Rattle.batch_script.specs.Headline.{Premises, RunsWhole, WantsMemory, IsNoScript, input_limit}
+use Rattle.batch_script.specs.Headline.{Premises, RunsWhole, WantsMemory, input_limit}
+use Rattle.batch_script.specs.Status.{IsNoScript}
 use Rattle.batch_script.specs.Machine.{Item, Run}
 use Rattle.batch_script.specs.declared.program.Status.{Status}
 use Rattle.batch_script.specs.declared.program.Status.TheVariants.{Done, Syntax, Oom, ReadFault, WriteFault, TooLong, Usage}

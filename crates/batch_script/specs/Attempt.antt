@@ -3,7 +3,8 @@ use Rattle.std.specs.Prelude.{◌≡◌, ◌≢◌, ◌⊎◌, ℕ, ◌≤◌, L
 use Rattle.wic_vec.specs.TryString.{TryString}
 use Rattle.batch_script.specs.Device.{Rose}
 use Rattle.batch_script.specs.Grammar.{IsScript}
-use Rattle.batch_script.specs.Headline.{Tells, ReadsToEnd, IsNoScript, IsBeyondLimit, IsWithinLimit, input_limit}
+use Rattle.batch_script.specs.Headline.{input_limit}
+use Rattle.batch_script.specs.Status.{Tells, ReadsToEnd, IsNoScript, IsBeyondLimit, IsWithinLimit}
 use Rattle.batch_script.specs.declared.program.Status.{Status}
 use Rattle.batch_script.specs.declared.program.Status.TheVariants.{Done, Syntax, Oom, ReadFault, WriteFault, TooLong, Usage}
 use Rattle.batch_script.specs.declared.program.ReadEnd.{ReadEnd}

@@ -9,4 +9,5 @@ pub mod Reading
 pub mod Refusal
 pub mod Reply
 pub mod RunText
+pub mod Status
 pub mod Step

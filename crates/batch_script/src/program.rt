@@ -3,7 +3,8 @@ ghost use Rattle.std.specs.Prelude.{◌≡◌, ◌≢◌, ◌⊎◌, ◌+◌, �
 ghost use Rattle.batch_script.specs.Attempt.{Answers, Attempts, Finishes, IsReadEnd, ReadsAll, WritesFront, WritesWhole};
 ghost use Rattle.batch_script.specs.Device.{Rose};
 ghost use Rattle.batch_script.specs.Grammar.{IsScript, IsFaultLine};
-ghost use Rattle.batch_script.specs.Headline.{Gains, IsBeyondLimit, IsNoScript, IsWithinLimit, Premises, ReadsToEnd, RunsWhole, WantsMemory, input_limit};
+ghost use Rattle.batch_script.specs.Headline.{Premises, RunsWhole, WantsMemory, input_limit};
+ghost use Rattle.batch_script.specs.Status.{Gains, IsBeyondLimit, IsNoScript, IsWithinLimit, ReadsToEnd};
 ghost use Rattle.batch_script.specs.Machine.{Item};
 ghost use Rattle.batch_script.specs.declared.program.Status.{Status};
 
@@ -39,7 +40,7 @@ pub enum Status {
 }
 
 impl Status {
-    ghost use Rattle.batch_script.specs.Headline.{code_of};
+    ghost use Rattle.batch_script.specs.Status.{code_of};
 
     /// The status as a number, from 0 to 6 in the order of the variants. Own.
     pub fn code(self) -> u8
