@@ -1,5 +1,5 @@
 //! Reads and writes that fail, and words that ask for nothing there is.
-use crate::program::{bytes_of, run_program};
+use crate::program::{run_program, vector_of};
 use batch_script::{Failed, MemSink, PlainSource, Sink, Source, Status};
 use std::test::Fail;
 use wic_vec::TryVec;
@@ -54,7 +54,7 @@ fn any_word_is_answered_by_the_usage(rt: HostRuntime) -> Result<(), Fail> {
 
 #[test]
 fn a_plain_source_gives_its_bytes_once(rt: HostRuntime) -> Result<(), Fail> {
-    let mut source = PlainSource::new(bytes_of(rt.alloc(), b"abcde")?);
+    let mut source = PlainSource::new(vector_of(rt.alloc(), b"abcde")?);
     let mut piece = [0; 3];
     for (count, held) in [(3, b"abc"), (2, b"dec"), (0, b"dec")] {
         assert_eq!(rt; source.read(&mut piece), Ok(count));

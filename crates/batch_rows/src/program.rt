@@ -1,6 +1,4 @@
 //! Calls of the program that the tests share.
-ghost use Rattle.std.specs.Prelude.{◌≤◌};
-
 use batch_script::{MemSink, MemSource, Status, top};
 use std::alloc::Global;
 use wic_base::OutOfMemory;
@@ -13,21 +11,10 @@ pub struct Answer {
     pub sink: MemSink,
 }
 
-/// Bytes as a vector of their own.
-pub fn bytes_of(alloc: Global, bytes: &[u8]) -> Result<TryVec<u8>, OutOfMemory> {
-    let mut all = TryVec::with_capacity(alloc, bytes.len())?;
-    for byte in bytes {
-        all.push(*byte)?;
-    }
-    Ok(all)
-}
-
-/// Numbers of calls as a vector of their own.
-fn calls_of(alloc: Global, calls: &[u64]) -> Result<TryVec<u64>, OutOfMemory> {
+/// A vector of its own with these elements.
+pub fn vector_of<T: Copy>(alloc: Global, elements: &[T]) -> Result<TryVec<T>, OutOfMemory> {
     let mut all = TryVec::new(alloc);
-    for call in calls {
-        all.push(*call)?;
-    }
+    all.extend_from_slice(elements)?;
     Ok(all)
 }
 
@@ -44,8 +31,12 @@ pub fn run_program(
     for word in words {
         given.push(TryString::try_from_str(alloc, word)?)?;
     }
-    let mut source = MemSource::new(bytes_of(alloc, input)?, 4, calls_of(alloc, failing_reads)?);
-    let mut sink = MemSink::new(alloc, 100, 3, calls_of(alloc, failing_writes)?)?;
+    let mut source = MemSource::new(
+        vector_of(alloc, input)?,
+        4,
+        vector_of(alloc, failing_reads)?,
+    );
+    let mut sink = MemSink::new(alloc, 100, 3, vector_of(alloc, failing_writes)?)?;
     let status = top(alloc, &given, &mut source, &mut sink);
     Ok(Answer { status, sink })
 }

@@ -1,6 +1,5 @@
 //! Sources and sinks in memory, which fail at the calls that they are told.
 ghost use Rattle.std.specs.Prelude.{◌≡◌, ◌+◌, ◌-◌, ◌<◌, ◌≤◌, ◌↔◌, ◌⊎◌, ◌++◌, ℕ, List, [], length, take, drop, min, Some, Contains, IsTrue, IsOk, IsErr, IfOk, OnOk, OnErr};
-ghost use Rattle.wic_vec.specs.TryVec.{HasRoomFor};
 ghost use Rattle.batch_script.specs.Device.{HasCause, TakesFirst};
 ghost use Rattle.batch_script.specs.MemoryDevice.{next_call};
 
@@ -275,18 +274,7 @@ impl Sink for MemSink {
             return Err(self.plan.fail());
         }
         let count = self.piece.min(piece.len()).min(room_left);
-        append(&mut self.bytes, &piece[..count]);
+        self.bytes.extend_from_slice(&piece[..count]).unwrap();
         Ok(count)
-    }
-}
-
-/// Puts bytes at the end, for which there is room.
-pub(crate) fn append(bytes: &mut TryVec<u8>, piece: &[u8])
-    requires { HasRoomFor bytes.old (length piece.now) }
-    ensures items { bytes.new.items ≡ bytes.old.items ++ piece.now }
-    ensures capacity { bytes.new.capacity ≡ bytes.old.capacity }
-{
-    for byte in piece {
-        bytes.push_reserved(*byte);
     }
 }

@@ -9,7 +9,6 @@ ghost use Rattle.batch_script.specs.Machine.{Item};
 ghost use Rattle.batch_script.specs.declared.program.Status.{Status};
 
 use crate::device::{Failed, Sink, Source};
-use crate::memory_device::append;
 use crate::runner::{RunError, run};
 use std::alloc::Global;
 use wic_vec::{TryString, TryVec};
@@ -85,11 +84,7 @@ fn take_piece(bytes: &mut TryVec<u8>, piece: &[u8]) -> Result<(), ReadEnd>
     if piece.len() > INPUT_LIMIT - bytes.len() {
         return Err(ReadEnd::TooLong);
     }
-    if bytes.reserve(piece.len()).is_err() {
-        return Err(ReadEnd::Oom);
-    }
-    append(bytes, piece);
-    Ok(())
+    bytes.extend_from_slice(piece).map_err(|_| ReadEnd::Oom)
 }
 
 /// Writes a text whole, in pieces that the sink takes.

@@ -250,6 +250,25 @@ impl<T: Drop> TryVec<T> {
     }
 }
 
+impl<T: Copy> TryVec<T> {
+    /// Puts copies of the elements of `other` at the end, in order. It is refused only where the capacity is below the
+    /// new length: then the vector is as before. Within the capacity it is never refused and the capacity stays.
+    ///
+    /// This project's own, after `Vec::extend_from_slice`.
+    pub fn extend_from_slice(&mut self, other: &[T]) -> Result<(), OutOfMemory>
+        ensures last { OnOk result (self.new.items ≡ self.old.items ++ other.now) }
+        ensures never_refused_within { HasRoomFor self.old (length other.now) → IsOk result }
+        ensures refused_only_beyond { OnErr result (self.old.capacity < length self.old.items + length other.now) }
+        ensures capacity_kept_within { HasRoomFor self.old (length other.now) → self.new.capacity ≡ self.old.capacity }
+        ensures capacity_never_falls { self.old.capacity ≤ self.new.capacity }
+        ensures refusal_leaves { OnErr result (self.new ≡ self.old) }
+    {
+        self.reserve(other.len())?;
+        self.inner.extend_from_slice(other).unwrap();
+        Ok(())
+    }
+}
+
 /// The element at a place below the length. A port of `TryVec`'s `Index`, at a place.
 impl<T> Index<usize> for TryVec<T> {
     type Output = T;

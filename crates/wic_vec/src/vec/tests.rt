@@ -10,9 +10,7 @@ fn of(alloc: Global, numbers: &[u32]) -> Result<TryVec<u32>, OutOfMemory>
     ensures items { IfOk result (λ v. v.items ≡ numbers.now) }
 {
     let mut v = TryVec::with_capacity(alloc, numbers.len())?;
-    for number in numbers {
-        v.push(*number)?;
-    }
+    v.extend_from_slice(numbers)?;
     Ok(v)
 }
 
