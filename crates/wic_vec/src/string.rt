@@ -2,6 +2,8 @@
 ghost use Rattle.std.specs.Prelude.{◌≡◌, ◌+◌, ◌<◌, ◌≤◌, ◌==◌, [], ◌++◌, length, encode_utf8, string_bytes, IsOk, IfOk, OnOk, OnErr};
 ghost use Rattle.wic_vec.specs.TryString.{HasRoomFor};
 
+mod decimal;
+
 use std::alloc::Global;
 use std::marker::Model;
 use wic_base::OutOfMemory;

@@ -25,3 +25,14 @@ fn texts_have_the_room_that_was_asked_for(rt: HostRuntime) -> Result<(), Fail> {
     assert_eq!(rt; TryString::from_string(own).as_str(), "own");
     Ok(())
 }
+
+#[test]
+fn numbers_are_written_in_decimal(rt: HostRuntime) -> Result<(), Fail> {
+    let mut text = TryString::new(rt.alloc());
+    for number in [0, 7, 10, 4096, u64::MAX] {
+        text.push_decimal(number)?;
+        text.push(' ')?;
+    }
+    assert_eq!(rt; text.as_str(), "0 7 10 4096 18446744073709551615 ");
+    Ok(())
+}
