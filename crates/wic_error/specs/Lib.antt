@@ -1,0 +1,8 @@
+-- What contracts see of an error, its chain and its texts.
+pub mod Chain
+pub mod Code
+pub mod Error
+pub mod Kept
+pub mod Kind
+pub mod Lends
+pub mod Repr
