@@ -1,10 +1,10 @@
 -- Links that lie with the root first, and are looked through from the newest on.
-use Rattle.std.proofs.Common.{◌≡◌, ℕ, ◌==◌, Bool, true, false, List, [], ◌∷◌, ◌++◌, length, reverse, slice_get, set, Option, Some, None, refl, sym, ap, ◌∙◌, append_assoc, if◌then◌else◌, is_some, MatchOption}
+use Rattle.std.proofs.Common.{◌≡◌, ℕ, ◌==◌, Bool, true, false, List, [], ◌∷◌, ◌++◌, length, reverse, slice_get, set, Option, Some, None, refl, sym, ap, ◌∙◌, append_assoc, if◌then◌else◌, is_some, MatchOption, map}
 use Rattle.std.specs.List.{find}
-use Rattle.std.proofs.lemmas.List.{reverse-append}
+use Rattle.std.proofs.lemmas.List.{reverse-append, map-append}
 use Rattle.std.proofs.lemmas.List.Folds.{find-append}
 use Rattle.std.proofs.Math.Seq.{set-append_seam}
-use Rattle.wic_error.specs.Error.{links, links_of, first_with, with_first, replace_first}
+use Rattle.wic_error.specs.Error.{links, links_of, items_of, link, EndsIn, first_with, with_first, replace_first}
 use Rattle.wic_error.specs.Repr.{error_of, IsNewestWith}
 use Rattle.wic_error.specs.Kept.{kept_of, seen, with_kept}
 use Rattle.wic_error.specs.declared.repr.Repr.{Repr}
@@ -72,6 +72,18 @@ module _ {K : Type 0} where
         | true ↦ refl
         | false ↦ refl
       ]
+
+-- The root lies first, and is the last item of the chain.
+module _ {K : Type 0} where
+  items_of-error_of : (front : List K) (root : K) → items_of (error_of (front ++ root ∷ [])) ≡ map link front ++ link root ∷ []
+  items_of-error_of [] root = refl
+  items_of-error_of (newest ∷ front) root = ap (link newest ∷◌) (map-append link front (root ∷ []))
+
+  pub ends_in_root : (kept : List K) (root : K) → slice_get kept 0 ≡ Some root → EndsIn (items_of (error_of (reverse kept))) (link root)
+  ends_in_root [] root none = let bad : None ≡ Some root = none in cc
+  ends_in_root (first ∷ rest) root there =
+      let same : first ≡ root = cc in
+      (map link (reverse rest), rw (reverse_parts [] rest first, ← same) (items_of-error_of (reverse rest) first))
 
 -- The first link with a number, by the place where it lies.
 module _ {K : Type 0} (number : K → ℕ) (wanted : ℕ) (repr : Repr K) where

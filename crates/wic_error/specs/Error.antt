@@ -1,5 +1,5 @@
 -- What a contract sees of an error, and of the items of its chain.
-use Rattle.std.specs.Prelude.{◌≡◌, ℕ, ◌==◌, Bool, true, false, List, [], ◌∷◌, ◌++◌, map, Option, find, if◌then◌else◌}
+use Rattle.std.specs.Prelude.{◌≡◌, ℕ, ◌==◌, Bool, true, false, List, [], ◌∷◌, ◌++◌, map, Option, Some, None, find, if◌then◌else◌}
 use Rattle.wic_base.specs.OutOfMemory.{text_of}
 
 -- an error: want of memory with the size that was wanted, or links, the newest and those before it, the newest first
@@ -32,6 +32,11 @@ module _ {K : Type 0} where
   abbrev pub items_of : Error K → List (Item K)
   items_of (out_of_memory size) = oom size ∷ []
   items_of (links newest older) = map link (newest ∷ older)
+
+  -- want of memory as an item, where there is one
+  abbrev pub want_of : Option ℕ → List (Item K)
+  want_of None = []
+  want_of (Some size) = oom size ∷ []
 
   -- the first of an error's links that has this number
   abbrev pub first_with : (K → ℕ) → ℕ → Error K → Option K

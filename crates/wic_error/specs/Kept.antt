@@ -1,5 +1,5 @@
 -- What a contract sees of what an error keeps. No public clause cites this module.
-use Rattle.std.specs.Prelude.{⊤, ℕ, ◌<◌, List, [], length, reverse}
+use Rattle.std.specs.Prelude.{⊤, ℕ, ◌<◌, List, [], length, reverse, Option, Some, None}
 use Rattle.wic_vec.specs.TryVec.{with_item}
 use Rattle.wic_error.specs.Error.{Error, out_of_memory}
 use Rattle.wic_error.specs.Repr.{error_of}
@@ -11,6 +11,11 @@ module _ {K : Type 0} where
   abbrev pub kept_of : Repr K → List K
   kept_of (Oom size) = []
   kept_of (Links kept) = kept.items
+
+  -- the want of memory
+  abbrev pub oom_of : Repr K → Option ℕ
+  oom_of (Oom size) = Some size
+  oom_of (Links kept) = None
 
   -- the error that is kept
   abbrev pub seen : Repr K → Error K

@@ -2,6 +2,7 @@
 pub mod Chain
 pub mod Code
 pub mod Error
+pub mod Item
 pub mod Kept
 pub mod Kind
 pub mod Lends

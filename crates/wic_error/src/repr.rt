@@ -17,7 +17,7 @@ pub(crate) enum Repr<K> {
 }
 
 impl<K> Repr<K> {
-    ghost use Rattle.wic_error.specs.Kept.{kept_of};
+    ghost use Rattle.wic_error.specs.Kept.{kept_of, oom_of};
     ghost use Rattle.wic_error.specs.Lends.{lends_kept};
 
     /// The links, the root first.
@@ -27,6 +27,16 @@ impl<K> Repr<K> {
         match self {
             Repr::Oom(_) => &[],
             Repr::Links(links) => links.as_slice(),
+        }
+    }
+
+    /// The want of memory.
+    pub(crate) fn oom(&self) -> Option<OutOfMemory>
+        ensures wanted { result ≡ oom_of self.now }
+    {
+        match self {
+            Repr::Oom(oom) => Some(*oom),
+            Repr::Links(_) => None,
         }
     }
 
