@@ -71,20 +71,13 @@ impl<K: Drop> Error<K> {
         let Error { repr } = self;
         match repr {
             Repr::Oom(oom) => Error::from_oom(oom),
-            Repr::Links(links) => with_context(links, context),
+            Repr::Links(mut links) => match links.push(context) {
+                Ok(()) => Error {
+                    repr: Repr::Links(links),
+                },
+                Err(oom) => Error::from_oom(oom),
+            },
         }
-    }
-}
-
-/// The error of these links with a context in front, or want of memory.
-fn with_context<K: Drop>(mut links: TryVec<K>, context: K) -> Error<K>
-    ensures in_front { (result ≡ error_of (reverse (links.items ++ context ∷ []))) ⊎ IsTrue (is_oom result) }
-{
-    match links.push(context) {
-        Ok(()) => Error {
-            repr: Repr::Links(links),
-        },
-        Err(oom) => Error::from_oom(oom),
     }
 }
 

@@ -1,4 +1,3 @@
-use Rattle.std.proofs.Common.{sym, ◌∙◌}
 use Rattle.wic_error.proofs.Links.{first_found, seen-with_kept}
 use Rattle.wic_error.proofs.error.Error.downcast_mut.Goals as goal
 
@@ -9,4 +8,4 @@ returns g c =
     let it = rw c.links.ensures.kept at c.in_ok-place.ensures.newest in
     let written = λ (w : g.row.K.Denot). seen-with_kept g.K.Kind.number c.args.number repr place w it in
     let first = first_found g.K.Kind.number c.args.number repr place it in
-    (simp (written, c.self.view_is), record { writes_back = tt; first = rw (← c.self.view_is) (c.link_mut.ensures.item ∙ sym first) })
+    (simp (written, c.self.view_is), record { writes_back = tt; first = rw (← c.self.view_is, first) c.link_mut.ensures.item })

@@ -1,0 +1,202 @@
+use super::*;
+use crate::callers::launch;
+use std::alloc::Global;
+use std::test::Fail;
+use wic_base::OutOfMemory;
+use wic_vec::TryString;
+
+// A link with a number and a text.
+#[derive(Clone, Copy)]
+struct Said {
+    number: u32,
+    text: &'static str,
+}
+
+impl Kind for Said {
+    ghost number = { λ said. said.number };
+
+    ghost text = { λ said. said.text.now };
+
+    fn number(&self) -> u32 {
+        self.number
+    }
+
+    fn push_text(&self, out: &mut TryString) -> Result<(), OutOfMemory> {
+        out.push_str(self.text)
+    }
+}
+
+fn link(number: u32, text: &'static str) -> Said {
+    Said { number, text }
+}
+
+// The error with this root and these contexts, the newest last.
+fn chain_of(alloc: Global, root: &'static str, contexts: &[&'static str]) -> Error<Said> {
+    let mut error = Error::new(alloc, link(1, root));
+    for context in contexts {
+        error = error.context(alloc, link(2, context));
+    }
+    error
+}
+
+#[test]
+fn an_error_has_three_texts(rt: HostRuntime) -> Result<(), Fail> {
+    let alloc = rt.alloc();
+    for (error, first, line, report) in [
+        (Error::msg(alloc, link(1, "ouch")), "ouch", "ouch", "ouch"),
+        (chain_of(alloc, "ouch", &[]), "ouch", "ouch", "ouch"),
+        (
+            chain_of(alloc, "root cause", &["failed to reticulate splines"]),
+            "failed to reticulate splines",
+            "failed to reticulate splines: root cause",
+            "failed to reticulate splines\n\nCaused by:\n    root cause\n",
+        ),
+        (
+            chain_of(
+                alloc,
+                "root cause",
+                &["failed to reticulate splines", "aborting launch"],
+            ),
+            "aborting launch",
+            "aborting launch: failed to reticulate splines: root cause",
+            "aborting launch\n\nCaused by:\n    0: failed to reticulate splines\n    1: root cause\n",
+        ),
+        (
+            Error::from_oom(OutOfMemory::new(8192)).context(alloc, link(2, "whoops")),
+            "out of memory (failed to allocate 8192 bytes)",
+            "out of memory (failed to allocate 8192 bytes)",
+            "out of memory (failed to allocate 8192 bytes)",
+        ),
+    ] {
+        assert_eq!(rt; error.first_text(alloc)?.as_str(), first);
+        assert_eq!(rt; error.line(alloc)?.as_str(), line);
+        assert_eq!(rt; error.report(alloc)?.as_str(), report);
+    }
+    Ok(())
+}
+
+#[test]
+fn the_eleventh_cause_has_two_digits(rt: HostRuntime) -> Result<(), Fail> {
+    let alloc = rt.alloc();
+    let error = chain_of(alloc, "r", &["c"; 11]);
+    let report = error.report(alloc)?;
+    assert!(rt; report.as_str().starts_with("c\n\nCaused by:\n    0: c\n"));
+    assert!(rt; report.as_str().ends_with("\n    9: c\n   10: r\n"));
+    Ok(())
+}
+
+#[test]
+fn links_are_found_by_their_number(rt: HostRuntime) -> Result<(), Fail> {
+    let alloc = rt.alloc();
+    let error = Error::new(alloc, link(1, "root cause")).context(
+        alloc,
+        link(1, "failed to recombobulate"),
+    );
+    assert!(rt; error.is(1) && !error.is(9));
+    let first = error.downcast_ref(1);
+    assert!(rt; first.is_some_and(|link| link.text == "failed to recombobulate"));
+    assert!(rt; error.downcast_ref(9).is_none());
+    let Err(mut error) = error.downcast(9) else {
+        return Err(Fail::new("no link has the number 9"));
+    };
+    assert_eq!(rt;
+        error.line(alloc)?.as_str(),
+        "failed to recombobulate: root cause"
+    );
+    if let Some(link) = error.downcast_mut(1) {
+        link.text = "yikes";
+    }
+    assert_eq!(rt; error.line(alloc)?.as_str(), "yikes: root cause");
+    let first = error.downcast(1).ok();
+    assert!(rt; first.is_some_and(|link| link.text == "yikes"));
+    Ok(())
+}
+
+#[test]
+fn the_root_is_the_last_of_the_chain(rt: HostRuntime) -> Result<(), Fail> {
+    let alloc = rt.alloc();
+    let error = chain_of(alloc, "ouch", &["whoops", "uh oh"]);
+    let mut text = TryString::new(alloc);
+    for item in error.chain() {
+        item.push_text(&mut text)?;
+        text.push('.')?;
+    }
+    error.root_cause().push_text(&mut text)?;
+    assert_eq!(rt; text.as_str(), "uh oh.whoops.ouch.ouch");
+    let mut chain = error.chain();
+    while chain.next().is_some() {}
+    assert!(rt; chain.next().is_none());
+    Ok(())
+}
+
+#[test]
+fn what_has_no_value_gets_a_context(rt: HostRuntime) -> Result<(), Fail> {
+    let alloc = rt.alloc();
+    let (whoops, ouch) = (link(2, "whoops"), link(1, "ouch"));
+    let none: Option<u8> = None;
+    let refused: Result<u8, Said> = Err(ouch);
+    let failed: Result<u8, Error<Said>> = Err(Error::new(alloc, ouch));
+    for (answer, line) in [
+        (none.context(alloc, ouch), "ouch"),
+        (none.with_context(alloc, || ouch), "ouch"),
+        (failed.context(alloc, whoops), "whoops: ouch"),
+        (result_context(alloc, refused, whoops), "whoops: ouch"),
+        (
+            result_with_context(alloc, refused, || whoops),
+            "whoops: ouch",
+        ),
+    ] {
+        assert_eq!(rt; line_of(alloc, answer)?.as_str(), line);
+    }
+    for answer in [
+        Some(3).with_context(alloc, || whoops),
+        result_with_context(alloc, Ok(3), || whoops),
+        ok(3),
+    ] {
+        assert!(rt; answer.is_ok_and(|value| value == 3));
+    }
+    Ok(())
+}
+
+#[test]
+fn want_of_memory_stays_the_same_error(rt: HostRuntime) -> Result<(), Fail> {
+    let alloc = rt.alloc();
+    let error: Error<Said> = Error::from(OutOfMemory::new(5));
+    assert!(rt; error.is_oom() && !error.is(1));
+    let mut called = 0;
+    let failed: Result<u8, Error<Said>> = Err(error);
+    let answer = failed.with_context(alloc, || {
+        called += 1;
+        link(2, "whoops")
+    });
+    assert_eq!(rt; called, 1);
+    assert_eq!(rt;
+        line_of(alloc, answer)?.as_str(),
+        "out of memory (failed to allocate 5 bytes)"
+    );
+    Ok(())
+}
+
+#[test]
+fn a_caller_tells_all_of_it(rt: HostRuntime) -> Result<(), Fail> {
+    let alloc = rt.alloc();
+    let answer = launch(alloc, &[3, 5], 5);
+    assert!(rt; answer.is_ok_and(|place| place == 1));
+    let answer = launch(alloc, &[3, 5], 7);
+    assert_eq!(rt;
+        line_of(alloc, answer)?.as_str(),
+        "aborting launch: no device 7"
+    );
+    Ok(())
+}
+
+// The line of an answer that is no value.
+fn line_of<T: Drop, K: Kind + Drop>(
+    alloc: Global,
+    answer: Result<T, Error<K>>,
+) -> Result<TryString, OutOfMemory> {
+    match answer {
+        Ok(_) => Ok(TryString::new(alloc)),
+        Err(error) => error.line(alloc),
+    }
+}
