@@ -1,5 +1,6 @@
 -- Links that lie with the root first, and are looked through from the newest on.
-use Rattle.std.proofs.Common.{◌≡◌, ℕ, ◌==◌, Bool, true, false, List, [], ◌∷◌, ◌++◌, length, reverse, slice_get, set, Option, Some, None, refl, sym, ap, ◌∙◌, append_assoc, if◌then◌else◌, is_some, MatchOption, map}
+use Rattle.std.proofs.Common.{◌≡◌, ℕ, ◌==◌, Bool, true, false, List, [], ◌∷◌, ◌++◌, length, reverse, slice_get, set, Option, Some, None}
+use Rattle.std.proofs.Common.{refl, sym, ap, ◌∙◌, append_assoc, if◌then◌else◌, is_some, MatchOption, map}
 use Rattle.std.specs.List.{find}
 use Rattle.std.proofs.lemmas.List.{reverse-append, map-append}
 use Rattle.std.proofs.lemmas.List.Folds.{find-append}
@@ -59,7 +60,13 @@ module _ {K : Type 0} where
     pub replace-newest : (kept : List K) (place : ℕ) (written : K) → IsNewestWith test kept place
         → replace_first test written (reverse kept) ≡ reverse (set kept place written)
     replace-newest kept place written it =
-        rw (it.parts, ← it.at, set-append_seam it.older it.found it.newer written, reverse_parts it.older it.newer it.found, reverse_parts it.older it.newer written)
+        rw (
+          it.parts,
+          ← it.at,
+          set-append_seam it.older it.found it.newer written,
+          reverse_parts it.older it.newer it.found,
+          reverse_parts it.older it.newer written,
+        )
         (replace_past (reverse it.newer) (reverse it.older) it.found written it.none_newer it.passes)
 
   -- writing over the first link with a number, among the links of an error

@@ -1,5 +1,5 @@
 //! Contexts for results and options.
-ghost use Rattle.std.specs.Prelude.{◌≡◌, Option, Some, None, Ok, IfOk, IfErr, IfSome, IfNone, IsErrAnd};
+ghost use Rattle.std.specs.Prelude.{◌≡◌, Option, None, Ok, IfOk, IfErr, IfSome, IfNone, IsErrAnd};
 ghost use Rattle.std.specs.Option.{ForNone};
 ghost use Rattle.std.specs.Result.{ForErr};
 ghost use Rattle.wic_error.specs.Context.{IsInContext, IsContextOf};
@@ -40,17 +40,11 @@ impl<T: Drop, K: Kind + Drop> Context<T, K> for Result<T, Error<K>> {
     ghost cause = { result_err };
 
     fn context(self, alloc: Global, context: K) -> Result<T, Error<K>> {
-        match self {
-            Ok(value) => Ok(value),
-            Err(error) => Err(error.context(alloc, context)),
-        }
+        self.map_err(|error| error.context(alloc, context))
     }
 
     fn with_context<F: FnOnce() -> K + Drop>(self, alloc: Global, f: F) -> Result<T, Error<K>> {
-        match self {
-            Ok(value) => Ok(value),
-            Err(error) => Err(error.context(alloc, f())),
-        }
+        self.map_err(|error| error.context(alloc, f()))
     }
 }
 
@@ -63,17 +57,11 @@ impl<T: Drop, K: Kind + Drop> Context<T, K> for Option<T> {
     ghost cause = { λ _. None };
 
     fn context(self, alloc: Global, context: K) -> Result<T, Error<K>> {
-        match self {
-            Some(value) => Ok(value),
-            None => Err(Error::new(alloc, context)),
-        }
+        self.ok_or_else(|| Error::new(alloc, context))
     }
 
     fn with_context<F: FnOnce() -> K + Drop>(self, alloc: Global, f: F) -> Result<T, Error<K>> {
-        match self {
-            Some(value) => Ok(value),
-            None => Err(Error::new(alloc, f())),
-        }
+        self.ok_or_else(|| Error::new(alloc, f()))
     }
 }
 
@@ -88,10 +76,7 @@ pub fn result_context<T: Drop, K: Kind + Drop>(
     ensures kept { IfOk r (λ value. result ≡ Ok value) }
     ensures in_context { IfErr r (λ root. IsErrAnd result (IsContextOf root context)) }
 {
-    match r {
-        Ok(value) => Ok(value),
-        Err(root) => Err(in_context(alloc, root, context)),
-    }
+    r.map_err(|root| in_context(alloc, root, context))
 }
 
 /// The same with the context that `f` answers, which is called only where there is no value, and needs to be callable
@@ -107,10 +92,7 @@ pub fn result_with_context<T: Drop, K: Kind + Drop, F: FnOnce() -> K + Drop>(
     ensures kept { IfOk r (λ value. result ≡ Ok value) }
     ensures in_context { IfErr r (λ root. (context : K) × F.post f context × IsErrAnd result (IsContextOf root context)) }
 {
-    match r {
-        Ok(value) => Ok(value),
-        Err(root) => Err(in_context(alloc, root, f())),
-    }
+    r.map_err(|root| in_context(alloc, root, f()))
 }
 
 /// An error whose root is this link, in this context.

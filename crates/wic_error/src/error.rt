@@ -1,8 +1,7 @@
 //! Errors as chains of links, which give way to want of memory.
-ghost use Rattle.std.specs.Prelude.{◌≡◌, ◌⊎◌, ◌==◌, [], ◌∷◌, Some, None, IsTrue, IfOk, IfErr, OnErr, is_some, reverse, ◌++◌};
+ghost use Rattle.std.specs.Prelude.{◌≡◌, ◌⊎◌, [], ◌∷◌, Some, None, IsTrue, IfOk, IfErr, OnErr, is_some};
 ghost use Rattle.std.specs.Option.{option_copied, option_copied_mut};
 ghost use Rattle.std.specs.Borrow.{sem};
-ghost use Rattle.wic_error.specs.Repr.{error_of};
 ghost use Rattle.wic_error.specs.Error.{out_of_memory, links, is_oom, links_of, first_with};
 
 use crate::kind::Kind;
@@ -118,7 +117,6 @@ impl<K> Error<K> {
 /// Want of memory, as `from_oom`. A port of `Error`'s `From<OutOfMemory>`.
 impl<K> From<OutOfMemory> for Error<K> {
     ghost use Rattle.std.specs.Prelude.{◌≡◌};
-    ghost use Rattle.wic_error.specs.Repr.{error_of};
     ghost use Rattle.wic_error.specs.Error.{out_of_memory};
 
     ghost from_gives = { λ oom error. error ≡ out_of_memory oom };

@@ -1,5 +1,5 @@
 //! How an error lies in memory.
-ghost use Rattle.std.specs.Prelude.{◌≡◌, ◌<◌, ◌==◌, [], length, reverse, slice_get, find, Some, None, IsSome, MatchOption, IfSome, ◌↔◌};
+ghost use Rattle.std.specs.Prelude.{◌≡◌, ◌<◌, ◌==◌, [], length, reverse, slice_get, find, Some, None, MatchOption};
 ghost use Rattle.std.specs.Option.{option_copied, option_copied_mut};
 ghost use Rattle.std.specs.Borrow.{sem};
 ghost use Rattle.wic_error.specs.Repr.{IsNewestWith};

@@ -8,5 +8,6 @@ loop-link-preserved g c =
     let more = c.loop-link.invariant.1 in (
       c.in-Some.link.now ∷ c.loop-link.invariant.0,
       rw (c.in-Some.ensures.cases.0, append_assoc) at more,
-      none_in_more (λ k. g.K.Kind.number k == c.args.number) c.in-Some.link.now c.loop-link.invariant.0 c.loop-link.invariant.2 (ne_eqb _ _ (rw c.number.ensures.answers at c.if-number.false)),
+      none_in_more (λ k. g.K.Kind.number k == c.args.number) c.in-Some.link.now c.loop-link.invariant.0 c.loop-link.invariant.2
+          (ne_eqb _ _ (rw c.number.ensures.answers at c.if-number.false)),
     )
