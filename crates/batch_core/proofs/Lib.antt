@@ -1,0 +1,6 @@
+pub mod BackFacts
+pub mod ListFacts
+pub mod MapFacts
+pub mod ReadyFacts
+pub mod RunFacts
+pub mod SetFacts
