@@ -5,5 +5,6 @@ pub mod Batch
 pub mod Command
 pub mod Laws
 pub mod Room
+pub mod Same
 pub mod State
 pub mod Workspace

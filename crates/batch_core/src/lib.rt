@@ -7,6 +7,7 @@ mod callers;
 mod command;
 pub mod laws;
 mod record;
+mod same;
 mod store;
 #[cfg(test)]
 mod tests;

@@ -1,5 +1,5 @@
 //! What a workspace holds: the commands done in place, each with its records.
-ghost use Rattle.std.specs.Prelude.{◌≡◌, ◌+◌, ◌<◌, ◌≤◌, ◌↔◌, [], ◌∷◌, ◌++◌, ℕ, None, Some, IsOk, IsSome, IfSome, IfErr, OnOk, OnErr};
+ghost use Rattle.std.specs.Prelude.{◌≡◌, ◌+◌, ◌<◌, ◌≤◌, ◌↔◌, [], ◌∷◌, ◌++◌, ℕ, None, Some, IsTrue, IsOk, IsSome, IfSome, IfErr, OnOk, OnErr};
 ghost use Rattle.std.specs.Prelude.{length, take, true};
 ghost use Rattle.std.specs.FinMap.{contains_key, len};
 ghost use Rattle.wic_slab.specs.Order.{max_capacity};
@@ -7,10 +7,12 @@ ghost use Rattle.batch_core.specs.Back.{AllBelow, Grows, IsWithin, CanUndo, CanG
 ghost use Rattle.batch_core.specs.State.{no_contents, IsSound};
 ghost use Rattle.batch_core.specs.Command.{cause_of, effect_of, unless};
 ghost use Rattle.wic_bitset.specs.Compound.{capacity_of};
+ghost use Rattle.batch_core.specs.Same.{HaveSameContents};
 ghost use Rattle.batch_core.specs.Workspace.{IsDone, IsKept, HasRoom, IsCauseOf};
 
 use crate::command::{Cause, Command};
 use crate::record::Record;
+use crate::same::same_pairs;
 use std::alloc::Global;
 use std::marker::Model;
 use std::mem;
@@ -387,6 +389,17 @@ impl<T: Drop> Store<T> {
                 None => unreachable!(),
             }
         }
+    }
+
+    /// Whether list, set and live pairs of the table are equal.
+    pub fn same_contents(&self, other: &Store<T>) -> bool
+    where
+        T: Eq,
+        ensures same { IsTrue result ↔ HaveSameContents T.eq self.now.contents other.now.contents }
+    {
+        self.list.as_slice() == other.list.as_slice()
+            && self.set == other.set
+            && same_pairs(&self.table, &other.table)
     }
 
     // Takes the last record out, if there is one.

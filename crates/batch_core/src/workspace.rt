@@ -1,5 +1,5 @@
 //! A workspace: a list, a set and a table that change together or not at all.
-ghost use Rattle.std.specs.Prelude.{◌≡◌, ◌<◌, ◌≤◌, ◌↔◌, [], ℕ, None, Err, max, length, take, IsOk, IfErr, OnOk, OnErr};
+ghost use Rattle.std.specs.Prelude.{◌≡◌, ◌<◌, ◌≤◌, ◌↔◌, [], ℕ, None, Err, max, length, take, IsTrue, IsOk, IfErr, OnOk, OnErr};
 ghost use Rattle.wic_slab.specs.Order.{max_capacity};
 ghost use Rattle.wic_bitset.specs.Compound.{capacity_of};
 ghost use Rattle.batch_core.specs.Applied.{RefusedFor, IsApplied};
@@ -8,6 +8,7 @@ ghost use Rattle.batch_core.specs.Back.{Grows, IsWithin, back};
 ghost use Rattle.batch_core.specs.Command.{cause_of};
 ghost use Rattle.batch_core.specs.State.{no_contents, IsSound};
 ghost use Rattle.batch_core.specs.Room.{Fits};
+ghost use Rattle.batch_core.specs.Same.{HaveSameContents};
 ghost use Rattle.batch_core.specs.Workspace.{IsOom, IsReady, IsDone, IsKept, IsCauseOf, KeepsWithin};
 
 use crate::answer::{Done, Refusal, ReserveRefusal};
@@ -256,6 +257,16 @@ impl<T: Drop> Workspace<T> {
                 Ok(Done::Aborted)
             }
         }
+    }
+
+    /// Whether both workspaces have the same contents: equal lists, sets of the same members, and tables with the same live ids
+    /// and equal values. The order of later ids, the records and the room aren't compared. It takes no memory. Own.
+    pub fn same_contents(&self, other: &Workspace<T>) -> bool
+    where
+        T: Eq,
+        ensures same { IsTrue result ↔ HaveSameContents T.eq self.now.contents other.now.contents }
+    {
+        self.store.same_contents(&other.store)
     }
 
     // The workspace with all records undone, the last first.
