@@ -57,7 +57,7 @@ refused_here o cause n at later is next =
     ap (λ x. option_map (later_by n) (front_or_later x later)) is
     ∙ ap (λ k. Some (record { cause = cause; at = k })) (sym next)
 
-if_none_more : (o : Option Cause) (P Q : Type 0) → (P → Q) → IfNone o P → IfNone o Q
+pub if_none_more : (o : Option Cause) (P Q : Type 0) → (P → Q) → IfNone o P → IfNone o Q
 if_none_more None P Q more here = more here
 if_none_more (Some cause) P Q more here = tt
 

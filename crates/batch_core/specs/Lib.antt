@@ -4,6 +4,7 @@ pub mod Back
 pub mod Batch
 pub mod Command
 pub mod Laws
+pub mod Many
 pub mod Room
 pub mod Same
 pub mod State

@@ -1,29 +1,47 @@
-//! Callers of a workspace, proved from its contracts alone.
-ghost use Rattle.std.specs.Prelude.{◌≡◌, ◌≤◌, IsOk, IfErr, OnErr};
-ghost use Rattle.batch_core.specs.Room.{IsOom, Fits};
+//! Callers of a workspace, proved from its contracts and laws alone.
+ghost use Rattle.std.specs.Prelude.{◌≡◌, ◌++◌, OnOk};
+ghost use Rattle.batch_core.specs.Command.{effect_of, records_of};
+ghost use Rattle.batch_core.specs.Many.{contents_after_all, AllFit};
 
-use crate::command::{Batch, Command, Done, Refusal};
+use crate::answer::ReserveRefusal;
+use crate::command::{Batch, Cause, Command};
+use crate::laws::law_larger_room;
 use crate::workspace::Workspace;
+use wic_vec::TryVec;
 
-// Two steps after a mark are taken back, the first one too where the second isn't done.
-pub fn two_and_back<T: Drop>(workspace: &mut Workspace<T>, value: T)
-    ensures contents { workspace.new.contents ≡ workspace.old.contents }
-    ensures records { workspace.new.records ≡ workspace.old.records }
+// Makes room for n, and then does batches that each fit it where they stand. Once there is the room, memory refuses none of
+// them: the contents are those that the plain machine comes to.
+pub fn reserve_and_run<T: Drop>(
+    workspace: &mut Workspace<T>,
+    n: u64,
+    batches: TryVec<Batch<T>>,
+) -> Result<(), ReserveRefusal>
+    requires fit { AllFit n workspace.old.contents batches.items }
+    ensures contents { OnOk result (workspace.new.contents ≡ contents_after_all workspace.old.contents batches.items) }
 {
-    let mark = workspace.mark();
-    if workspace.step(Command::Pop).is_ok() {
-        let _ = workspace.step(Command::Push(value));
+    workspace.reserve(n)?;
+    for batch in batches {
+        law_larger_room::<T>();
+        let _ = workspace.apply(batch);
     }
-    workspace.back_to(mark);
+    Ok(())
 }
 
-// A batch of values that are lent.
-pub fn lent<'a>(
-    workspace: &mut Workspace<(&'a str, u8)>,
-    batch: Batch<(&'a str, u8)>,
-) -> Result<Done, Refusal>
-    ensures left { OnErr result (workspace.new.contents ≡ workspace.old.contents) }
-    ensures fits { Fits workspace.old.room workspace.old.contents batch.entry.commands.items → IfErr result (λ r. ¬ IsOom r.cause) }
+// Does one command for good and tries two more, which are taken back, whether they could be done or not.
+pub fn keep_one_and_try_two<T: Drop>(
+    workspace: &mut Workspace<T>,
+    kept: Command<T>,
+    tried: Command<T>,
+    then: Command<T>,
+) -> Result<(), Cause>
+    ensures contents { OnOk result (workspace.new.contents ≡ effect_of workspace.old.contents kept) }
+    ensures records { OnOk result (workspace.new.records ≡ workspace.old.records ++ records_of workspace.old.contents kept) }
 {
-    workspace.apply(batch)
+    workspace.step(kept)?;
+    let mark = workspace.mark();
+    if workspace.step(tried).is_ok() {
+        let _ = workspace.step(then);
+    }
+    workspace.back_to(mark);
+    Ok(())
 }

@@ -15,6 +15,6 @@ mod workspace;
 
 pub use answer::{Done, Refusal, ReserveRefusal};
 pub use command::{Batch, Cause, Command, End};
-pub use laws::law_undo;
+pub use laws::{law_larger_room, law_undo};
 pub use record::Record;
 pub use workspace::Workspace;
