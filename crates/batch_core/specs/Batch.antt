@@ -1,9 +1,11 @@
 -- What a batch comes to: it takes effect whole, or not at all.
-use Rattle.std.specs.Prelude.{ℕ, ◌+◌, List, [], ◌∷◌, Option, Some, None}
+use Rattle.std.specs.Prelude.{ℕ, ◌+◌, List, [], ◌∷◌, ◌++◌, Option, Some, None}
 use Rattle.std.specs.Option.{option_map}
 use Rattle.batch_core.specs.State.{Contents}
-use Rattle.batch_core.specs.Command.{Cause, CommandReply, cause_of, effect_of, reply_of}
+use Rattle.batch_core.specs.Command.{cause_of, effect_of, records_of}
+use Rattle.batch_core.specs.declared.command.Cause.{Cause}
 use Rattle.batch_core.specs.declared.command.Command.{Command}
+use Rattle.batch_core.specs.declared.record.Record.{Record}
 use Rattle.batch_core.specs.declared.command.End.{End}
 use Rattle.batch_core.specs.declared.command.End.TheVariants.{Commit, Abort}
 
@@ -14,18 +16,18 @@ pub record BadCommand : Type 0 where
 
 -- what a batch comes to
 pub data Outcome (T : Type 0) : Type 0 where
-  committed : List (CommandReply T) → Outcome T
+  committed : List (Record T) → Outcome T
   aborted : Outcome T
   refused : BadCommand → Outcome T
 
--- the same command, counted from one place earlier
-abbrev pub one_later : BadCommand → BadCommand
-one_later bad = record bad { at = bad.at + 1 }
+-- the same command, counted from so many places earlier
+abbrev pub later_by : ℕ → BadCommand → BadCommand
+later_by places bad = record bad { at = places + bad.at }
 
 -- the first command of two parts of a batch that is bad: the command in front, or else one behind it
 abbrev pub front_or_later : Option Cause → Option BadCommand → Option BadCommand
 front_or_later (Some cause) later = Some (record { cause = cause; at = 1 })
-front_or_later None later = option_map one_later later
+front_or_later None later = option_map (later_by 1) later
 
 module _ {T : Type 0} where
   -- the first bad command, if there is one: those before it are admitted where they stand, and it isn't
@@ -39,14 +41,14 @@ module _ {T : Type 0} where
   contents_after contents [] = contents
   contents_after contents (command ∷ commands) = contents_after (effect_of contents command) commands
 
-  -- the replies of all commands in order, each of which is admitted
-  abbrev pub replies_of : Contents T → List (Command T) → List (CommandReply T)
-  replies_of contents [] = []
-  replies_of contents (command ∷ commands) = reply_of contents command ∷ replies_of (effect_of contents command) commands
+  -- the records of all commands in order, each of which is admitted
+  abbrev pub records_after : Contents T → List (Command T) → List (Record T)
+  records_after contents [] = []
+  records_after contents (command ∷ commands) = records_of contents command ++ records_after (effect_of contents command) commands
 
   -- the outcome and the contents after a batch with no bad command
   abbrev pub ended : Contents T → List (Command T) → End → Outcome T × Contents T
-  ended contents commands Commit = (committed (replies_of contents commands), contents_after contents commands)
+  ended contents commands Commit = (committed (records_after contents commands), contents_after contents commands)
   ended contents commands Abort = (aborted, contents)
 
   -- a bad command refuses the whole batch, whatever its end, and the old contents stay

@@ -1,4 +1,5 @@
 //! Commands, and the batches that they stand in.
+use wic_base::OutOfMemory;
 use wic_vec::TryVec;
 
 /// One command of a batch. Own.
@@ -6,6 +7,22 @@ use wic_vec::TryVec;
 pub enum Command<T> {
     /// Puts the value at the end of the list.
     Push(T),
+    /// Takes the last value of the list out.
+    Pop,
+    /// Puts the value in this place of the list, counted from 0.
+    Set(u64, T),
+    /// Holds the value under the next id.
+    Alloc(T),
+    /// Gives this id back, and takes its value out.
+    Free(u64),
+    /// Puts the value under this id, which is live.
+    Put(u64, T),
+    /// Puts the number into the set.
+    Insert(u64),
+    /// Takes the number out of the set.
+    Remove(u64),
+    /// Leaves so many values at the front of the list, and takes the others out.
+    Truncate(u64),
 }
 
 /// How a batch ends: what it did stays, or is taken back. Own.
@@ -22,4 +39,21 @@ pub enum End {
 pub struct Batch<T> {
     pub commands: TryVec<Command<T>>,
     pub end: End,
+}
+
+/// Why a command isn't done. Own.
+#[derive(Clone, Copy, Debug)]
+pub enum Cause {
+    /// The list is empty.
+    Empty,
+    /// The place isn't below the length of the list; or more values are to be left than there are.
+    Position,
+    /// The id isn't live.
+    Vacant,
+    /// As many ids are live as there can be.
+    Full,
+    /// The number is above the greatest that the set can have.
+    TooLarge,
+    /// There was no memory for the effect of the command or for its records.
+    Oom(OutOfMemory),
 }

@@ -1,12 +1,12 @@
 -- Which inputs are scripts: the lines of an input against the lines that items are printed as.
-use Rattle.std.specs.Prelude.{◌≡◌, ◌⊎◌, ℕ, ◌+◌, ◌^◌, ◌<◌, ◌≤◌, ◌==◌, if◌then◌else◌, List, [], ◌∷◌, ◌++◌, length, take, map, codes}
-use Rattle.std.specs.List.{AllByRecursion, flat_map}
+use Rattle.std.specs.Prelude.{⊤, ◌≡◌, ◌⊎◌, ℕ, ◌+◌, ◌^◌, ◌<◌, ◌≤◌, ◌==◌, if◌then◌else◌, List, [], ◌∷◌, ◌++◌, length, take, map, codes}
+use Rattle.std.specs.List.{AllByRecursion, flat_map, join_with_byte}
 use Rattle.std.specs.Fmt.{decimal}
 use Rattle.batch_core.specs.declared.command.Command.{Command}
-use Rattle.batch_core.specs.declared.command.Command.TheVariants.{Push}
+use Rattle.batch_core.specs.declared.command.Command.TheVariants.{Push, Pop, Set, Alloc, Free, Put, Insert, Remove, Truncate}
 use Rattle.batch_core.specs.declared.command.End.{End}
 use Rattle.batch_core.specs.declared.command.End.TheVariants.{Commit, Abort}
-use Rattle.batch_script.specs.Machine.{Item, batch}
+use Rattle.batch_script.specs.Machine.{Item, reserve, show, batch}
 
 -- a line is its bytes, without the line feed at its end
 abbrev pub Line : Type 0
@@ -22,17 +22,37 @@ abbrev pub lines_of : List ℕ → List Line
 lines_of [] = []
 lines_of (byte ∷ bytes) = if byte == 10 then [] ∷ lines_of bytes else with_byte byte (lines_of bytes)
 
--- a command has only numbers that a script can write
-abbrev pub IsValidCommand : Command ℕ → Type 0
-IsValidCommand (Push value) = value < 2 ^ 64
+-- a line of a word and numbers: one space stands between words, and numbers have no leading zeros
+abbrev pub line_of : List ℕ → List ℕ → Line
+line_of word numbers = join_with_byte 32 (word ∷ map decimal numbers)
 
--- an item has only numbers that a script can write
-abbrev pub IsValidItem : Item → Type 0
-IsValidItem (batch commands ending) = AllByRecursion IsValidCommand commands
+-- the word that a command begins with
+abbrev pub word_of : Command ℕ → List ℕ
+word_of (Push value) = codes "push"
+word_of Pop = codes "pop"
+word_of (Set at value) = codes "set"
+word_of (Alloc value) = codes "alloc"
+word_of (Free id) = codes "free"
+word_of (Put id value) = codes "put"
+word_of (Insert number) = codes "insert"
+word_of (Remove number) = codes "remove"
+word_of (Truncate kept) = codes "truncate"
+
+-- the numbers that follow it
+abbrev pub numbers_of : Command ℕ → List ℕ
+numbers_of (Push value) = value ∷ []
+numbers_of Pop = []
+numbers_of (Set at value) = at ∷ value ∷ []
+numbers_of (Alloc value) = value ∷ []
+numbers_of (Free id) = id ∷ []
+numbers_of (Put id value) = id ∷ value ∷ []
+numbers_of (Insert number) = number ∷ []
+numbers_of (Remove number) = number ∷ []
+numbers_of (Truncate kept) = kept ∷ []
 
 -- the line of a command
 abbrev pub command_line : Command ℕ → Line
-command_line (Push value) = codes "push " ++ decimal value
+command_line command = line_of (word_of command) (numbers_of command)
 
 -- the line that ends a batch
 abbrev pub end_line : End → Line
@@ -41,7 +61,23 @@ end_line Abort = codes "abort"
 
 -- the lines that an item is printed as
 abbrev pub printed_lines : Item → List Line
+printed_lines (reserve number) = line_of (codes "reserve") (number ∷ []) ∷ []
+printed_lines show = codes "show" ∷ []
 printed_lines (batch commands ending) = codes "begin" ∷ map command_line commands ++ end_line ending ∷ []
+
+-- a number that a script can write
+abbrev pub IsWritable : ℕ → Type 0
+IsWritable number = number < 2 ^ 64
+
+-- a command has only numbers that a script can write
+abbrev pub IsValidCommand : Command ℕ → Type 0
+IsValidCommand command = AllByRecursion IsWritable (numbers_of command)
+
+-- an item has only numbers that a script can write
+abbrev pub IsValidItem : Item → Type 0
+IsValidItem (reserve number) = IsWritable number
+IsValidItem show = ⊤
+IsValidItem (batch commands ending) = AllByRecursion IsValidCommand commands
 
 -- the lines that items are printed as, one item after the other
 abbrev pub all_lines : List Item → List Line

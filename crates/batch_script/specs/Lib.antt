@@ -10,4 +10,3 @@ pub mod Refusal
 pub mod Reply
 pub mod RunText
 pub mod Status
-pub mod Step

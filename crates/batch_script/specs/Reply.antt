@@ -1,30 +1,75 @@
 -- The text of replies.
-use Rattle.std.specs.Prelude.{ℕ, List, [], ◌∷◌, ◌++◌, map, codes}
+use Rattle.std.specs.Prelude.{ℕ, true, false, List, [], ◌∷◌, ◌++◌, codes}
 use Rattle.std.specs.List.{flat_map}
 use Rattle.std.specs.Fmt.{decimal}
-use Rattle.batch_core.specs.Command.{Cause, CommandReply, pushed}
+use Rattle.std.specs.FinMap.{entries}
+use Rattle.wic_bitset.specs.Rising.{rising}
 use Rattle.batch_core.specs.Batch.{Outcome, committed, aborted, refused}
-use Rattle.batch_script.specs.Machine.{Reply, answered, no_memory}
+use Rattle.batch_core.specs.declared.command.Cause.{Cause}
+use Rattle.batch_core.specs.declared.command.Cause.TheVariants.{Empty, Position, Vacant, Full, TooLarge, Oom}
+use Rattle.batch_core.specs.declared.record.Record.{Record}
+use Rattle.batch_core.specs.declared.record.Record.TheVariants.{Pushed, Popped, Replaced, Allocated, Freed, Put as Overwritten}
+use Rattle.batch_core.specs.declared.record.Record.TheVariants.{Inserted, Removed, Cut, Truncated}
+use Rattle.batch_script.specs.Machine.{Reply, reserved, reserve_too_large, shown, answered, no_memory}
 use Rattle.batch_script.specs.Grammar.{Line}
 
--- the line of the reply to one command
-abbrev pub command_reply_line : CommandReply ℕ → Line
-command_reply_line pushed = codes "ok"
+-- the line that a record shows: the reply to its command. A value that was cut off has none of its own.
+abbrev pub record_lines : Record ℕ → List Line
+record_lines Pushed = codes "ok" ∷ []
+record_lines (Popped value) = (codes "popped " ++ decimal value) ∷ []
+record_lines (Replaced at old) = (codes "was " ++ decimal old) ∷ []
+record_lines (Allocated id) = (codes "id " ++ decimal id) ∷ []
+record_lines (Freed id old) = (codes "freed " ++ decimal old) ∷ []
+record_lines (Overwritten id old) = (codes "was " ++ decimal old) ∷ []
+record_lines (Inserted number true) = codes "new" ∷ []
+record_lines (Inserted number false) = codes "present" ∷ []
+record_lines (Removed number true) = codes "removed" ∷ []
+record_lines (Removed number false) = codes "absent" ∷ []
+record_lines (Cut value) = []
+record_lines (Truncated removed) = (codes "cut " ++ decimal removed) ∷ []
+
+-- what there was no memory for, as a refusal says it
+abbrev pub no_memory_text : List ℕ
+no_memory_text = codes "out of memory"
 
 -- why a command was refused, in words
-abbrev pub cause_text : Cause → Line
-cause_text cause = elim cause [ ]
+abbrev pub cause_text : Cause → List ℕ
+cause_text Empty = codes "list is empty"
+cause_text Position = codes "position is not below the length"
+cause_text Vacant = codes "id is not live"
+cause_text Full = codes "table is full"
+cause_text TooLarge = codes "number is too large"
+cause_text (Oom size) = no_memory_text
+
+-- a refusal: what was refused, and why
+abbrev pub refusal_line : List ℕ → List ℕ → Line
+refusal_line what why = codes "refused: " ++ what ++ codes ": " ++ why
 
 -- the lines of what a batch came to
 abbrev pub outcome_lines : Outcome ℕ → List Line
-outcome_lines (committed replies) = map command_reply_line replies ++ codes "committed" ∷ []
+outcome_lines (committed records) = flat_map record_lines records ++ codes "committed" ∷ []
 outcome_lines aborted = codes "aborted" ∷ []
-outcome_lines (refused bad) = (codes "refused: command " ++ decimal bad.at ++ codes ": " ++ cause_text bad.cause) ∷ []
+outcome_lines (refused bad) = refusal_line (codes "command " ++ decimal bad.at) (cause_text bad.cause) ∷ []
+
+-- a word, and one space and a text for each element
+abbrev pub listing : {X : Type 0} → List ℕ → (X → List ℕ) → List X → Line
+listing word text elements = word ++ flat_map (λ element. 32 ∷ text element) elements
+
+-- an id with its value
+abbrev pub pair_text : ℕ × ℕ → List ℕ
+pair_text pair = decimal pair.0 ++ codes "=" ++ decimal pair.1
 
 -- the lines of the reply to one item
 abbrev pub reply_lines : Reply → List Line
+reply_lines reserved = codes "reserved" ∷ []
+reply_lines reserve_too_large = refusal_line (codes "reserve") (cause_text TooLarge) ∷ []
+reply_lines (shown list set live next) =
+    listing (codes "list") decimal list
+    ∷ listing (codes "set") decimal (rising set)
+    ∷ listing (codes "table") pair_text (entries live)
+    ∷ (codes "next " ++ decimal next) ∷ []
 reply_lines (answered outcome) = outcome_lines outcome
-reply_lines no_memory = codes "refused: out of memory" ∷ []
+reply_lines no_memory = (codes "refused: " ++ no_memory_text) ∷ []
 
 -- the text of lines, each of which is ended by a line feed
 abbrev pub text_of_lines : List Line → List ℕ

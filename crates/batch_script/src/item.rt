@@ -2,14 +2,20 @@
 use batch_core::Batch;
 use wic_vec::TryVec;
 
-/// One item of a script.
+/// One item of a script. Own.
 #[derive(Drop)]
-pub(crate) enum Item {
+pub enum Item {
+    /// Makes the room so large.
+    Reserve(u64),
+    /// Writes list, set, table and the next id.
+    Show,
+    /// Takes effect whole or not at all.
     Batch(Batch<u64>),
 }
 
-/// A script that was read whole.
+/// A script that was read whole. Own.
 #[derive(Drop)]
-pub(crate) struct Script {
+pub struct Script {
+    /// The items, in order.
     pub items: TryVec<Item>,
 }

@@ -1,7 +1,6 @@
 //! Scripts of batches: how they are read, run and answered.
 #![tactic(auto)]
 
-mod apply;
 mod device;
 mod item;
 mod memory_device;

@@ -1,2 +1,3 @@
--- The text of want of memory.
+-- The text of want of memory, and what a guard lends.
+pub mod Lends
 pub mod OutOfMemory

@@ -1,5 +1,7 @@
 //! The integers that hold a set.
 ghost use Rattle.std.specs.Prelude.{◌≡◌, ◌==◌, ◌&&◌, ◌||◌, ℕ, ◌<◌, ◌≤◌, ◌↔◌, IsTrue, false, length, nat_lt, not};
+ghost use Rattle.wic_scalar.specs.Scalar.{IsWidth, IsWidth-check};
+ghost use Rattle.std.specs.Prelude.{refl};
 ghost use Rattle.wic_scalar.specs.Digits.{is_one, SameDigits, IsLowZeros, IsHighZeros};
 ghost use Rattle.wic_scalar.specs.Scalar.{members_of};
 
@@ -14,6 +16,9 @@ pub trait ScalarBitSetStorage: Copy {
 
     /// The number that a value is.
     ghost number: { Self → ℕ };
+
+    /// Each value has a digit, and at most 128.
+    ghost width_within: { IsWidth width };
 
     /// How many digits each value has: 8 for `u8`, and so on; 64 for `usize`.
     fn width() -> u8
@@ -66,6 +71,8 @@ pub trait ScalarBitSetStorage: Copy {
 #[tactic(auto, using(crate::proofs::Widths::laws_8))]
 impl ScalarBitSetStorage for u8 {
     ghost width = { 8 };
+
+    ghost width_within = { IsWidth-check 8 refl refl };
 
     ghost number = { λ n. n };
 
@@ -129,6 +136,8 @@ impl ScalarBitSetStorage for u8 {
 impl ScalarBitSetStorage for u16 {
     ghost width = { 16 };
 
+    ghost width_within = { IsWidth-check 16 refl refl };
+
     ghost number = { λ n. n };
 
     #[inline]
@@ -190,6 +199,8 @@ impl ScalarBitSetStorage for u16 {
 #[tactic(auto, using(crate::proofs::Widths::laws_32))]
 impl ScalarBitSetStorage for u32 {
     ghost width = { 32 };
+
+    ghost width_within = { IsWidth-check 32 refl refl };
 
     ghost number = { λ n. n };
 
@@ -253,6 +264,8 @@ impl ScalarBitSetStorage for u32 {
 impl ScalarBitSetStorage for u64 {
     ghost width = { 64 };
 
+    ghost width_within = { IsWidth-check 64 refl refl };
+
     ghost number = { λ n. n };
 
     #[inline]
@@ -315,6 +328,8 @@ impl ScalarBitSetStorage for u64 {
 impl ScalarBitSetStorage for u128 {
     ghost width = { 128 };
 
+    ghost width_within = { IsWidth-check 128 refl refl };
+
     ghost number = { λ n. n };
 
     #[inline]
@@ -376,6 +391,8 @@ impl ScalarBitSetStorage for u128 {
 #[tactic(auto, using(crate::proofs::Widths::laws_64))]
 impl ScalarBitSetStorage for usize {
     ghost width = { 64 };
+
+    ghost width_within = { IsWidth-check 64 refl refl };
 
     ghost number = { λ n. n };
 

@@ -3,7 +3,7 @@ ghost use Rattle.std.specs.Prelude.{◌≡◌, ◌^◌, ◌<◌, length};
 ghost use Rattle.std.specs.Borrow.{sem};
 ghost use Rattle.std.specs.Iterator.Runs.{YieldsInOrder, YieldsRefsInOrder, YieldsRefsInReverse, YieldsMutRefsInOrder, YieldsMutRefsInReverse};
 ghost use Rattle.std.specs.Slice.Iter.{iter_rest, iter_steps, iter_steps_back, iter_mut_rest, iter_mut_steps, iter_mut_steps_back};
-ghost use Rattle.std.specs.Vec.Iter.{into_iter_items, into_iter_steps};
+ghost use Rattle.std.specs.Vec.Iter.{into_iter_items, into_iter_len, into_iter_steps};
 ghost use Rattle.std.specs.declared.alloc.Global.{Global};
 
 use super::TryVec;
@@ -44,8 +44,8 @@ impl<T: Drop> IntoIterator for TryVec<T> {
 
     type IntoIter = IntoIter<T>;
 
-    ghost into_iter_gives = { λ v it. (into_iter_items it ≡ v.items) × (length (into_iter_items it) < 2 ^ 64)
-        × YieldsInOrder (into_iter_steps {X = T} {Z = Global}) into_iter_items };
+    ghost into_iter_gives = { λ v it. (into_iter_items it ≡ v.items) × (into_iter_len it ≡ length v.items)
+        × (length (into_iter_items it) < 2 ^ 64) × YieldsInOrder (into_iter_steps {X = T} {Z = Global}) into_iter_items };
 
     fn into_iter(self) -> IntoIter<T> {
         let TryVec { inner, capacity: _ } = self;

@@ -1,0 +1,40 @@
+-- Rooms, one larger than the other.
+use Rattle.std.proofs.Common.{◌≡◌, ℕ, ◌+◌, ◌≤◌, List, [], ◌∷◌, length, None, Some, Option, arith, sym, ap, ◌∙◌, subst}
+use Rattle.std.specs.Prelude.{IfNone}
+use Rattle.batch_core.specs.State.{Contents}
+use Rattle.batch_core.specs.Command.{cause_of, effect_of}
+use Rattle.batch_core.specs.Room.{cut_by, Passes, StaysWithin, Fits}
+use Rattle.batch_core.specs.Many.{FitsLargerRooms}
+use Rattle.batch_core.specs.declared.command.Command.{Command}
+use Rattle.batch_core.specs.declared.command.Command.TheVariants.{Push, Pop, Set, Alloc, Free, Put, Insert, Remove, Truncate}
+use Rattle.batch_core.proofs.RunFacts.{if_none_more}
+
+module _ {X : Type 0} where
+  -- what passes the larger room passes the smaller one
+  passes_smaller : (room larger count : ℕ) (c : Contents X) (command : Command X) → room ≤ larger → Passes larger count c command
+      → Passes room count c command
+  passes_smaller room larger count c (Push value) more passes = omega arith
+  passes_smaller room larger count c Pop more passes = passes
+  passes_smaller room larger count c (Set at value) more passes = passes
+  passes_smaller room larger count c (Alloc value) more passes = omega arith
+  passes_smaller room larger count c (Free id) more passes = passes
+  passes_smaller room larger count c (Put id value) more passes = passes
+  passes_smaller room larger count c (Insert number) more passes = omega arith
+  passes_smaller room larger count c (Remove number) more passes = passes
+  passes_smaller room larger count c (Truncate kept) more passes = omega arith
+
+  within_larger : (room larger count : ℕ) (c : Contents X) (commands : List (Command X)) → room ≤ larger
+      → StaysWithin room count c commands → StaysWithin larger count c commands
+  within_larger room larger count c [] more within = tt
+  within_larger room larger count c (command ∷ commands) more within =
+      if_none_more (cause_of c command) _ _
+      (λ here. (
+        λ passes. here.0 (passes_smaller room larger count c command more passes),
+        within_larger room larger (count + cut_by c command) (effect_of c command) commands more here.1,
+      )) within
+
+  pub fits_larger : FitsLargerRooms X
+  fits_larger room larger c commands more fits = record {
+    few = omega (arith, fits.few, more);
+    within = within_larger room larger (length commands) c commands more fits.within;
+  }

@@ -1,0 +1,19 @@
+use Rattle.std.proofs.Common.{◌≡◌, None, sym, ap, subst, ◌∙◌}
+use Rattle.batch_core.specs.Batch.{first_bad}
+use Rattle.batch_core.proofs.RunFacts.{fits_kept}
+use Rattle.batch_core.proofs.workspace.Workspace.apply.Goals as goal
+
+pub returns-in-Err-run-clause-never_oom_within : goal.returns-in-Err-run-clause-never_oom_within
+returns-in-Err-run-clause-never_oom_within g c fits =
+    let begun = c.get_mut.ensures.held ∙ c.new-guard.ensures.holds ∙ c.replace-held.ensures.value in
+    c.in-Err-run.ensures.never_oom_within
+    (fits_kept (ap (λ w. w.room) begun ∙ c.begin_records.ensures.room)
+        (ap (λ w. w.contents) begun ∙ c.begin_records.ensures.contents) fits)
+
+pub returns-in-Err-run-clause-never_refused_within : goal.returns-in-Err-run-clause-never_refused_within
+returns-in-Err-run-clause-never_refused_within g c fits none =
+    let begun = c.get_mut.ensures.held ∙ c.new-guard.ensures.holds ∙ c.replace-held.ensures.value in
+    let contents = ap (λ w. w.contents) begun ∙ c.begin_records.ensures.contents in
+    c.in-Err-run.ensures.never_refused_within
+    (fits_kept (ap (λ w. w.room) begun ∙ c.begin_records.ensures.room) contents fits)
+    (subst (λ k. first_bad k c.args.batch.commands.items ≡ None) (sym contents) none)

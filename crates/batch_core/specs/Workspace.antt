@@ -1,0 +1,88 @@
+-- What a contract sees of a workspace.
+use Rattle.std.specs.Prelude.{⊤, ◌≡◌, ℕ, ◌+◌, ◌≤◌, List, ◌++◌, length, Some, None, refl}
+use Rattle.std.specs.Coded.{Coded, code_by, coded×, coded_ℕ, coded_list}
+use Rattle.std.specs.Ordering.{nat_cmp}
+use Rattle.std.specs.FinMap.{FinMap, code, len}
+use Rattle.std.specs.FinSet.{FinSet, code as set_code}
+use Rattle.batch_core.specs.State.{Contents}
+use Rattle.batch_core.specs.Command.{cause_of, effect_of, records_of}
+use Rattle.batch_core.specs.Back.{Capacities, AllBelow, CanGoBack}
+use Rattle.batch_core.specs.Room.{Passes}
+use Rattle.batch_core.specs.declared.command.Cause.{Cause}
+use Rattle.batch_core.specs.declared.command.Cause.TheVariants.{Oom}
+use Rattle.batch_core.specs.declared.command.Command.{Command}
+use Rattle.batch_core.specs.declared.record.Record.{Record}
+
+-- the contents, the records since the last batch began, the room, and the capacities
+pub record Workspace (T : Type 0) : Type 0 where
+  pub contents : Contents T
+  pub records : List (Record T)
+  pub room : ℕ
+  pub capacities : Capacities
+
+-- a workspace is stored as the tuple of its fields
+abbrev pub workspace_code : {T : Type 0} → Coded T → Coded (Record T) → Coded (Workspace T)
+workspace_code {T} value one_record =
+    code_by
+    ((List T × (FinSet nat_cmp × (FinMap nat_cmp T × (List ℕ × ℕ)))) × (List (Record T) × (ℕ × (ℕ × (ℕ × (ℕ × ℕ))))))
+    (coded× (coded× (coded_list value)
+    (coded× (set_code coded_ℕ) (coded× (code coded_ℕ value) (coded× (coded_list coded_ℕ) coded_ℕ))))
+    (coded× (coded_list one_record) (coded× coded_ℕ (coded× coded_ℕ (coded× coded_ℕ (coded× coded_ℕ coded_ℕ))))))
+    (λ s. (
+      (s.contents.list, (s.contents.set, (s.contents.live, (s.contents.order.vacant, s.contents.order.fresh)))),
+      (s.records, (s.room, (s.capacities.list, (s.capacities.set, (s.capacities.table, s.capacities.records))))),
+    ))
+    (λ p. record {
+      contents = record {
+        list = p.0.0;
+        set = p.0.1.0;
+        live = p.0.1.1.0;
+        order = record { vacant = p.0.1.1.1.0; fresh = p.0.1.1.1.1 };
+      };
+      records = p.1.0;
+      room = p.1.1.0;
+      capacities = record { list = p.1.1.1.0; set = p.1.1.1.1.0; table = p.1.1.1.1.1.0; records = p.1.1.1.1.1.1 };
+    })
+    (λ _. refl)
+
+-- want of memory
+abbrev pub IsOom : Cause → Type 0
+IsOom (Oom size) = ⊤
+IsOom cause = ⊥
+
+module _ {T : Type 0} where
+  -- what is true of every workspace: its records can be taken back with no request for memory, and no capacity is below
+  -- the room
+  pub record IsReady (s : Workspace T) : Type 0 where
+    pub back : CanGoBack s.capacities s.records s.contents
+    pub list : s.room ≤ s.capacities.list
+    pub set : s.room ≤ s.capacities.set
+    pub table : s.room ≤ s.capacities.table
+    pub records : s.room ≤ s.capacities.records
+
+  -- the command took effect, and its records were added
+  pub record IsDone (old : Workspace T) (command : Command T) (new : Workspace T) : Type 0 where
+    pub effect : new.contents ≡ effect_of old.contents command
+    pub records : new.records ≡ old.records ++ records_of old.contents command
+
+  -- nothing but capacities changed
+  pub record IsKept (old new : Workspace T) : Type 0 where
+    pub contents : new.contents ≡ old.contents
+    pub records : new.records ≡ old.records
+
+  -- the command, once it took effect, stays within the capacities
+  pub record HasRoom (s : Workspace T) (command : Command T) : Type 0 where
+    pub list : length (effect_of s.contents command).list ≤ s.capacities.list
+    pub set : AllBelow (effect_of s.contents command).set s.capacities.set
+    pub table : len (effect_of s.contents command).live ≤ s.capacities.table
+    pub records : length s.records + length (records_of s.contents command) ≤ s.capacities.records
+
+  -- why a command wasn't done: its cause, or else want of memory, and then it would pass a capacity
+  abbrev pub IsCauseOf : Workspace T → Command T → Cause → Type 0
+  IsCauseOf s command (Oom size) = (cause_of s.contents command ≡ None) × (¬ HasRoom s command)
+  IsCauseOf s command cause = cause_of s.contents command ≡ Some cause
+
+  -- the command keeps within the room: it leaves no more records than the room, and doesn't pass it
+  pub record KeepsWithin (s : Workspace T) (command : Command T) : Type 0 where
+    pub few : length s.records + 1 ≤ s.room
+    pub within : ¬ Passes s.room (length s.records + 1) s.contents command

@@ -1,0 +1,28 @@
+//! What commands leave behind when they took effect.
+
+/// What a command that took effect tells, and what takes it back. Own.
+///
+/// Each command leaves one, but `Truncate`: it leaves a `Cut` a value, the last value first, and then a `Truncated`.
+#[derive(Debug, Drop, PartialEq, Eq)]
+pub enum Record<T> {
+    /// A value was put at the end of the list.
+    Pushed,
+    /// This value was taken from the end of the list.
+    Popped(T),
+    /// The value in this place of the list was this one.
+    Replaced { at: u64, old: T },
+    /// A value is held under this id.
+    Allocated { id: u32 },
+    /// This id was given back, and its value was this one.
+    Freed { id: u32, old: T },
+    /// The value under this id was this one.
+    Put { id: u32, old: T },
+    /// The number is in the set: whether it is new there.
+    Inserted { number: u64, was_new: bool },
+    /// The number isn't in the set: whether it was there.
+    Removed { number: u64, was_there: bool },
+    /// This value was cut from the end of the list.
+    Cut(T),
+    /// So many values were cut from the list.
+    Truncated { removed: u64 },
+}

@@ -1,0 +1,92 @@
+//! A value under guard: it is committed or rolled back.
+ghost use Rattle.std.specs.Prelude.{◌≡◌};
+ghost use Rattle.std.specs.Borrow.{sem};
+
+/// Guards a value together with the function that takes back what is done to it.
+///
+/// A guard is no `Drop`: it must be spent, by `commit` or by `roll_back`, on every way out of the function that holds it.
+/// Neither can be refused, and no call of a guard takes memory. What the function needs of the value stands in the
+/// invariant of the value's type.
+///
+/// A contract sees the held value, `inner`, and the function, `undo`. A port of `wasmtime_internal_core::undo::Undo`, which
+/// rolls back where it is dropped.
+///
+/// A counter that is put back where one of its steps is refused (`callers::inc_n` is the same function, proved):
+///
+/// ```
+/// let mut guard = Undo::new(counter, |counter: Counter| counter.stepped_back());
+/// for _ in 0..n {
+///     if !guard.get_mut().step() {
+///         return Err(Undo::roll_back(guard));
+///     }
+/// }
+/// Ok(Undo::commit(guard))
+/// ```
+pub struct Undo<T, F, R>
+where
+    F: FnOnce(T) -> R,
+{
+    inner: T,
+    undo: F,
+}
+
+impl<T, F, R> Undo<T, F, R>
+where
+    F: FnOnce(T) -> R,
+{
+    ghost use Rattle.wic_base.specs.Lends.{lends_inner};
+
+    /// Holds `inner`. The function may be called on every value.
+    ///
+    /// A port of `Undo::new`.
+    pub fn new(inner: T, undo: F) -> Undo<T, F, R>
+        requires { F.IsAlwaysCallable undo }
+        ensures holds { result.inner ≡ inner }
+        ensures function { result.undo ≡ undo }
+        ensures callable { F.IsAlwaysCallable result.undo }
+    {
+        Undo { inner, undo }
+    }
+
+    /// The held value.
+    ///
+    /// A port of `Deref` of `Undo`.
+    pub fn get(&self) -> &T
+        ensures held { result.now ≡ self.now.inner }
+    {
+        &self.inner
+    }
+
+    /// The held value, to be read and written. What is written is held, and the function stays.
+    ///
+    /// A port of `DerefMut` of `Undo`.
+    pub fn get_mut(&mut self) -> &mut T
+        ensures* writes_back { sem 𝓛 (lends_inner T.row F.row R.row self.entry result) }
+        ensures held { result.now ≡ self.old.inner }
+    {
+        &mut self.inner
+    }
+
+    /// The held value. The function is dropped, and never called.
+    ///
+    /// A port of `Undo::commit`.
+    pub fn commit(guard: Undo<T, F, R>) -> T
+    where
+        F: Drop,
+        ensures held { result ≡ guard.inner }
+    {
+        let Undo { inner, undo: _ } = guard;
+        inner
+    }
+
+    /// What the function answers on the held value. It must be callable, as it was where the guard was made.
+    ///
+    /// Own; in the Rust crate a guard that isn't committed calls its function where it is dropped.
+    pub fn roll_back(guard: Undo<T, F, R>) -> R
+        requires { F.IsAlwaysCallable guard.undo }
+        ensures answer { F.post guard.undo guard.inner result }
+    {
+        let Undo { inner, undo } = guard;
+        undo(inner)
+    }
+}

@@ -1,0 +1,20 @@
+-- What a contract sees of a compound set.
+use Rattle.std.specs.Prelude.{ℕ, ◌*◌, refl}
+use Rattle.std.specs.Ordering.{nat_cmp}
+use Rattle.std.specs.FinSet.{FinSet, code}
+use Rattle.std.specs.Coded.{Coded, code_by, coded×, coded_ℕ}
+
+-- the members, and how many words the set has
+pub record Compound : Type 0 where
+  pub members : FinSet nat_cmp
+  pub words : ℕ
+
+-- a set is stored as the pair of its fields
+abbrev pub compound_code : Coded Compound
+compound_code =
+    code_by (FinSet nat_cmp × ℕ) (coded× (code coded_ℕ) coded_ℕ) (λ s. (s.members, s.words))
+    (λ p. record { members = p.0; words = p.1 }) (λ _. refl)
+
+-- the capacity, where each word has so many places: the numbers below it need no further word
+abbrev pub capacity_of : ℕ → Compound → ℕ
+capacity_of width set = set.words * width

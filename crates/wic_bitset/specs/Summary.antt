@@ -1,0 +1,28 @@
+-- The summary of a set in words: the numbers of the words that have a member.
+use Rattle.std.specs.Prelude.{◌≡◌, ℕ, ◌*◌, ◌/◌, ◌≤◌, ◌<◌, List, map, false, true, ◌↔◌}
+use Rattle.std.specs.List.{flat_map}
+use Rattle.std.specs.Ordering.{nat_cmp}
+use Rattle.std.specs.FinSet.{FinSet, contains, items, from_list}
+use Rattle.wic_bitset.specs.Growth.{summary_count}
+use Rattle.wic_bitset.specs.Rising.{word_members}
+use Rattle.wic_bitset.specs.Words.{Words, Holds, IsWordEmpty}
+
+-- the summary has a digit 1 exactly at the words that have a member, and just the words that it needs; no member is above 4294967295
+pub record Summarizes (w : ℕ) (words summary : Words) : Type 0 where
+  pub holds : Holds w words.count
+  pub below : (i : ℕ) → contains words.members i ≡ true → i < words.count * w
+  pub numbers : (i : ℕ) → contains words.members i ≡ true → i ≤ 4294967295
+  pub size : summary.count ≡ summary_count w words.count
+  pub digits : (k : ℕ) → (contains summary.members k ≡ false) ↔ IsWordEmpty w words.members k
+
+-- the words that have a member: the different values of a member divided by the width, rounded down
+abbrev pub filled_words : ℕ → FinSet nat_cmp → FinSet nat_cmp
+filled_words w s = from_list (map (λ i. i / w) (items s))
+
+-- the words that have a member, rising, of those whose digits stand in word k of the summary
+abbrev pub block_words : ℕ → FinSet nat_cmp → ℕ → List ℕ
+block_words w s k = word_members w (filled_words w s) k
+
+-- the members in these words, rising
+abbrev pub block_members : ℕ → FinSet nat_cmp → ℕ → List ℕ
+block_members w s k = flat_map (word_members w s) (block_words w s k)

@@ -1,0 +1,56 @@
+//! Equality and hash of sets, which go by the members.
+ghost use Rattle.std.specs.Prelude.{◌≡◌, ◌==◌, ◌↔◌, ℕ, nat_eq, IsTrue};
+ghost use Rattle.std.specs.Cmp.{on_equiv, on_per, partial_equiv_from_equiv, unsigned_Decides};
+ghost use Rattle.std.specs.Cmp.Lexicographic.{pointwise, nat_list_eq_equiv};
+ghost use Rattle.std.specs.Hash as fed;
+ghost use Rattle.std.specs.Hash.{on_Alike, items_Alike, same_Alike};
+ghost use Rattle.wic_bitset.specs.Rising.{rising};
+
+use crate::set::CompoundBitSet;
+use std::hash::{Hash, Hasher};
+use wic_scalar::ScalarBitSetStorage;
+
+/// Two sets are equal exactly where they have the same members, whatever room they have.
+impl<T: ScalarBitSetStorage> PartialEq for CompoundBitSet<T> {
+    ghost eq = { λ s t. pointwise nat_eq (rising s.members) (rising t.members) };
+
+    ghost laws = { on_per (λ s. rising s.members) (partial_equiv_from_equiv nat_list_eq_equiv) };
+
+    fn eq(&self, other: &CompoundBitSet<T>) -> bool
+        ensures value { result ≡ pointwise nat_eq (rising self.now.members) (rising other.now.members) }
+        ensures members { IsTrue result ↔ (self.now.members ≡ other.now.members) }
+    {
+        let mut left = self.iter();
+        let mut right = other.iter();
+        while let Some(x) = left.next() {
+            match right.next() {
+                Some(y) => {
+                    if x != y {
+                        return false;
+                    }
+                },
+                None => return false,
+            }
+        }
+        right.next().is_none()
+    }
+}
+
+impl<T: ScalarBitSetStorage> Eq for CompoundBitSet<T> {
+    ghost laws = { on_equiv (λ s. rising s.members) nat_list_eq_equiv };
+}
+
+/// The number of the members, and then each of them, rising, each as a `usize`.
+impl<T: ScalarBitSetStorage> Hash for CompoundBitSet<T> {
+    ghost hash_input = { λ s. fed.slice fed.usize (rising s.members) };
+
+    ghost respects_eq = { (on_Alike (λ s. rising s.members) (items_Alike (same_Alike {E = nat_eq} fed.usize unsigned_Decides))).fed };
+
+    fn hash<H: Hasher>(&self, state: &mut H) {
+        state.write_usize(self.len());
+        let mut rest = self.iter();
+        while let Some(x) = rest.next() {
+            x.hash(state);
+        }
+    }
+}

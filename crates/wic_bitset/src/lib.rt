@@ -1,0 +1,19 @@
+//! A set of numbers in words, with a summary.
+#![tactic(auto)]
+
+mod compared;
+mod growth;
+mod iter;
+pub mod laws;
+mod scalars;
+mod set;
+mod steps;
+mod store;
+#[cfg(test)]
+mod tests;
+
+pub use iter::Iter;
+pub use laws::law_growth;
+pub use scalars::IterScalars;
+pub use set::CompoundBitSet;
+pub use steps::Steps;

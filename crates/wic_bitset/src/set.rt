@@ -1,0 +1,374 @@
+//! A set in words with a summary of which words have a member.
+ghost use Rattle.std.specs.Prelude.{◌≡◌, ◌+◌, ◌*◌, ◌/◌, ◌<◌, ◌≤◌, ◌↔◌, ◌++◌, ℕ, not, true, false, length};
+ghost use Rattle.std.specs.Prelude.{map, IsTrue, IsOk, OnOk, OnErr, IsNone, IfSome, IfNone, IfOk};
+ghost use Rattle.std.specs.FinSet as fin_set;
+ghost use Rattle.wic_bitset.specs.Compound.{capacity_of};
+ghost use Rattle.wic_bitset.specs.Growth.{count_after, count_for, summary_count};
+ghost use Rattle.wic_bitset.specs.Rising.{rising};
+ghost use Rattle.wic_bitset.specs.Summary.{block_members, block_words, filled_words};
+ghost use Rattle.wic_bitset.specs.Walk.{NextFrom, LastBefore, AreWords};
+ghost use Rattle.wic_bitset.specs.Words.{IsWordEmpty};
+
+use crate::growth::grown_count;
+use crate::scalars::IterScalars;
+use crate::steps::Steps;
+use crate::store::Store;
+use std::alloc::Global;
+use std::marker::Model;
+use std::sync::ledger::Ledger;
+use wic_base::OutOfMemory;
+use wic_scalar::ScalarBitSetStorage;
+use wic_vec::TryVec;
+
+/// A set of numbers, each at most 4294967295, in words of `T`.
+///
+/// A contract sees its `members`, a finite set, and the number of its `words`; the capacity is the words times the
+/// width of `T`. Port of `cranelift_bitset::CompoundBitSet`.
+#[derive(Drop)]
+pub struct CompoundBitSet<T: ScalarBitSetStorage> {
+    words: Store<T>,
+    // The numbers of the words that have a member.
+    summary: Store<T>,
+}
+
+impl<T: ScalarBitSetStorage> Model for CompoundBitSet<T> {
+    ghost use Rattle.wic_bitset.specs.Compound.{Compound, compound_code};
+    ghost use Rattle.wic_bitset.specs.Summary.{Summarizes};
+
+    ghost Value = { Compound };
+
+    ghost coded = { compound_code };
+
+    ghost view = { λ s. record { members = s.words.members; words = s.words.count } };
+
+    ghost invariant = { λ s. Summarizes T.width s.words s.summary };
+}
+
+impl<T: ScalarBitSetStorage> CompoundBitSet<T> {
+    /// The empty set, with no words. It takes no memory.
+    ///
+    /// Port of `CompoundBitSet::new`.
+    pub fn new(alloc: Global) -> CompoundBitSet<T>
+        ensures members { result.members ≡ fin_set.empty }
+        ensures words { result.words ≡ 0 }
+    {
+        CompoundBitSet {
+            words: Store::new(alloc),
+            summary: Store::new(alloc),
+        }
+    }
+
+    /// The empty set with room for the numbers below `capacity`. A capacity of 0 is never refused.
+    ///
+    /// Port of `CompoundBitSet::with_capacity`, which panics where memory is wanted.
+    pub fn with_capacity(alloc: Global, capacity: usize) -> Result<CompoundBitSet<T>, OutOfMemory>
+        requires within { capacity ≤ 4294967296 }
+        ensures members { IfOk result (λ set. set.members ≡ fin_set.empty) }
+        ensures words { IfOk result (λ set. set.words ≡ count_for T.width 0 capacity) }
+        ensures capacity { IfOk result (λ set. capacity ≤ capacity_of T.width set) }
+        ensures zero_never_refused { capacity ≡ 0 → IsOk result }
+    {
+        CompoundBitSet::try_with_capacity(alloc, capacity)
+    }
+
+    /// The empty set with room for the numbers below `capacity`. A capacity of 0 is never refused.
+    ///
+    /// Port of `CompoundBitSet::try_with_capacity`.
+    pub fn try_with_capacity(
+        alloc: Global,
+        capacity: usize,
+    ) -> Result<CompoundBitSet<T>, OutOfMemory>
+        requires within { capacity ≤ 4294967296 }
+        ensures members { IfOk result (λ set. set.members ≡ fin_set.empty) }
+        ensures words { IfOk result (λ set. set.words ≡ count_for T.width 0 capacity) }
+        ensures capacity { IfOk result (λ set. capacity ≤ capacity_of T.width set) }
+        ensures zero_never_refused { capacity ≡ 0 → IsOk result }
+    {
+        let mut set = CompoundBitSet::new(alloc);
+        set.try_ensure_capacity(capacity)?;
+        Ok(set)
+    }
+
+    /// The same members in as many words.
+    ///
+    /// Port of `Clone for CompoundBitSet`, which panics where memory is wanted.
+    pub fn try_clone(&self, alloc: Global) -> Result<CompoundBitSet<T>, OutOfMemory>
+        ensures same { IfOk result (λ copy. copy ≡ self.now) }
+    {
+        let words = self.words.try_clone(alloc)?;
+        let summary = self.summary.try_clone(alloc)?;
+        Ok(CompoundBitSet { words, summary })
+    }
+
+    /// Makes room for the numbers below `n`, as `try_ensure_capacity` does.
+    ///
+    /// Port of `CompoundBitSet::ensure_capacity`, which panics where memory is wanted.
+    pub fn ensure_capacity(&mut self, n: usize) -> Result<(), OutOfMemory>
+        requires within { n ≤ 4294967296 }
+        ensures members { self.new.members ≡ self.old.members }
+        ensures words { OnOk result (self.new.words ≡ count_for T.width self.old.words n) }
+        ensures capacity { OnOk result (n ≤ capacity_of T.width self.new) }
+        ensures never_refused_within { n ≤ capacity_of T.width self.old → IsOk result }
+        ensures unchanged_within { n ≤ capacity_of T.width self.old → self.new ≡ self.old }
+        ensures refused_only_beyond { OnErr result (capacity_of T.width self.old < n) }
+        ensures capacity_never_falls { capacity_of T.width self.old ≤ capacity_of T.width self.new }
+        ensures refusal_leaves { OnErr result (self.new ≡ self.old) }
+    {
+        self.try_ensure_capacity(n)
+    }
+
+    /// Makes room for the numbers below `n`: nothing is done where there is room, and else the count of words grows by
+    /// the rule of growth for the word of `n - 1`. The members stay. It is refused only where `n` is above the
+    /// capacity, and then the set is as before.
+    ///
+    /// Port of `CompoundBitSet::try_ensure_capacity`, which loses the members where it is refused.
+    pub fn try_ensure_capacity(&mut self, n: usize) -> Result<(), OutOfMemory>
+        requires within { n ≤ 4294967296 }
+        ensures members { self.new.members ≡ self.old.members }
+        ensures words { OnOk result (self.new.words ≡ count_for T.width self.old.words n) }
+        ensures capacity { OnOk result (n ≤ capacity_of T.width self.new) }
+        ensures never_refused_within { n ≤ capacity_of T.width self.old → IsOk result }
+        ensures unchanged_within { n ≤ capacity_of T.width self.old → self.new ≡ self.old }
+        ensures refused_only_beyond { OnErr result (capacity_of T.width self.old < n) }
+        ensures capacity_never_falls { capacity_of T.width self.old ≤ capacity_of T.width self.new }
+        ensures refusal_leaves { OnErr result (self.new ≡ self.old) }
+    {
+        if n == 0 {
+            return Ok(());
+        }
+        self.make_room_for(n - 1)
+    }
+
+    /// Puts `i` in, and answers whether it was not there before. Where `i` isn't below the capacity, the count of words
+    /// grows first, by the rule of growth for the word of `i`. It is refused only there, and then the set is as before.
+    ///
+    /// Port of `CompoundBitSet::insert`, which panics where memory is wanted.
+    pub fn insert(&mut self, i: usize) -> Result<bool, OutOfMemory>
+        requires number { i ≤ 4294967295 }
+        ensures new { IfOk result (λ is_new. is_new ≡ not (fin_set.contains self.old.members i)) }
+        ensures members { OnOk result (self.new.members ≡ fin_set.insert self.old.members i) }
+        ensures words { OnOk result (self.new.words ≡ count_after self.old.words (i / T.width)) }
+        ensures never_refused_below { i < capacity_of T.width self.old → IsOk result }
+        ensures words_kept_below { i < capacity_of T.width self.old → self.new.words ≡ self.old.words }
+        ensures refused_only_beyond { OnErr result (capacity_of T.width self.old ≤ i) }
+        ensures capacity_never_falls { capacity_of T.width self.old ≤ capacity_of T.width self.new }
+        ensures refusal_leaves { OnErr result (self.new ≡ self.old) }
+    {
+        self.make_room_for(i)?;
+        Ok(self.insert_below(i))
+    }
+
+    /// Takes `i` out, and answers whether it was there: `i` may be any number.
+    ///
+    /// Port of `CompoundBitSet::remove`.
+    pub fn remove(&mut self, i: usize) -> bool
+        ensures present { result ≡ fin_set.contains self.old.members i }
+        ensures members { self.new.members ≡ fin_set.remove self.old.members i }
+        ensures words { self.new.words ≡ self.old.words }
+    {
+        let was_present = self.words.remove(i);
+        let word = i / T::width() as usize;
+        if self.words.is_word_empty(word) {
+            self.summary.remove(word);
+        }
+        was_present
+    }
+
+    /// Takes the greatest member out and answers it, or `None` exactly where there is none.
+    ///
+    /// Port of `CompoundBitSet::pop`.
+    pub fn pop(&mut self) -> Option<usize>
+        ensures none { IsNone result ↔ (self.old.members ≡ fin_set.empty) }
+        ensures none_leaves { IfNone result (self.new ≡ self.old) }
+        ensures member { IfSome result (λ x. fin_set.contains self.old.members x ≡ true) }
+        ensures greatest { IfSome result (λ x. (i : ℕ) → fin_set.contains self.old.members i ≡ true → i ≤ x) }
+        ensures members { IfSome result (λ x. self.new.members ≡ fin_set.remove self.old.members x) }
+        ensures words { self.new.words ≡ self.old.words }
+    {
+        let max = self.max()?;
+        self.remove(max);
+        Some(max)
+    }
+
+    /// Takes every member out. The words stay.
+    ///
+    /// Port of `CompoundBitSet::clear`.
+    pub fn clear(&mut self)
+        ensures members { self.new.members ≡ fin_set.empty }
+        ensures words { self.new.words ≡ self.old.words }
+    {
+        self.words.clear();
+        self.summary.clear();
+    }
+
+    /// Whether `i` is a member: `i` may be any number.
+    ///
+    /// Port of `CompoundBitSet::contains`.
+    pub fn contains(&self, i: usize) -> bool
+        ensures member { result ≡ fin_set.contains self.now.members i }
+        ensures below { IsTrue result → i < capacity_of T.width self.now }
+        ensures number { IsTrue result → i ≤ 4294967295 }
+    {
+        self.words.contains(i)
+    }
+
+    /// The greatest member, or `None` exactly where there is none.
+    ///
+    /// Port of `CompoundBitSet::max`.
+    pub fn max(&self) -> Option<usize>
+        ensures none { IsNone result ↔ (self.now.members ≡ fin_set.empty) }
+        ensures member { IfSome result (λ x. fin_set.contains self.now.members x ≡ true) }
+        ensures greatest { IfSome result (λ x. (i : ℕ) → fin_set.contains self.now.members i ≡ true → i ≤ x) }
+    {
+        self.last(self.capacity())
+    }
+
+    /// How many numbers there is room for: an `insert` of a number below is never refused. Each member is below.
+    ///
+    /// Port of `CompoundBitSet::capacity`.
+    pub fn capacity(&self) -> usize
+        ensures capacity { result ≡ capacity_of T.width self.now }
+        ensures holds_all { (i : ℕ) → fin_set.contains self.now.members i ≡ true → i < result }
+        ensures numbers { (i : ℕ) → fin_set.contains self.now.members i ≡ true → i ≤ 4294967295 }
+    {
+        self.words.capacity()
+    }
+
+    /// The words from word 0 to that of the greatest member, and none where there is no member. Each is a set of the
+    /// places of its digits 1: place `j` of word `k` stands for the number `k * width + j`.
+    ///
+    /// Port of `CompoundBitSet::iter_scalars`.
+    pub fn iter_scalars(&self) -> IterScalars<'_, T>
+        ensures words { AreWords T.width self.now.members (map (λ s. T.number s.0) result) }
+    {
+        IterScalars::new(self.words.first_words(self.words_in_use()))
+    }
+
+    /// The members, rising. `steps` rises by at most the number of summary words and that of the words that have a
+    /// member: each of these is looked at once.
+    ///
+    /// This project's own.
+    pub fn members<L: Ledger>(
+        &self,
+        alloc: Global,
+        steps: &mut Steps<L>,
+    ) -> Result<TryVec<usize>, OutOfMemory>
+        ensures members { IfOk result (λ list. list.items ≡ rising self.now.members) }
+        ensures looks { steps.new ≤ steps.old + summary_count T.width self.now.words + fin_set.len (filled_words T.width self.now.members) }
+    {
+        let mut list = TryVec::new(alloc);
+        let blocks = self.summary.count();
+        for s in 0..blocks {
+            self.push_block(s, &mut list, steps)?;
+        }
+        Ok(list)
+    }
+
+    // Asks for the word of `i`: the count of words becomes what the rule of growth says. The room of the summary is
+    // asked for first, then that of the words, and neither changes until both are had.
+    fn make_room_for(&mut self, i: usize) -> Result<(), OutOfMemory>
+        requires number { i ≤ 4294967295 }
+        ensures members { self.new.members ≡ self.old.members }
+        ensures words { OnOk result (self.new.words ≡ count_after self.old.words (i / T.width)) }
+        ensures room { OnOk result (i + 1 ≤ capacity_of T.width self.new) }
+        ensures unchanged_below { i < capacity_of T.width self.old → self.new ≡ self.old }
+        ensures refused_only_beyond { OnErr result (capacity_of T.width self.old ≤ i) }
+        ensures refusal_leaves { OnErr result (self.new ≡ self.old) }
+    {
+        let width = T::width() as usize;
+        let word = i / width;
+        let count = self.words.count();
+        if word < count {
+            return Ok(());
+        }
+        let grown = grown_count(count, word);
+        let summary = grown.div_ceil(width);
+        self.summary.reserve(summary)?;
+        self.words.reserve(grown)?;
+        self.summary.grow(summary);
+        self.words.grow(grown);
+        Ok(())
+    }
+
+    // Puts `i`, which is below the capacity, in, and answers whether it is new.
+    fn insert_below(&mut self, i: usize) -> bool
+        requires within { i < capacity_of T.width self.old }
+        requires number { i ≤ 4294967295 }
+        ensures new { result ≡ not (fin_set.contains self.old.members i) }
+        ensures members { self.new.members ≡ fin_set.insert self.old.members i }
+        ensures words { self.new.words ≡ self.old.words }
+    {
+        self.summary.insert(i / T::width() as usize);
+        self.words.insert(i)
+    }
+
+    /// The least member that is at least `at`. It looks at one word, then at summary words, then at one more word.
+    pub(crate) fn next(&self, at: usize) -> Option<usize>
+        ensures next { NextFrom self.now.members at result }
+        ensures number { IfSome result (λ x. x ≤ 4294967295) }
+        ensures within { IfSome result (λ x. x < capacity_of T.width self.now) }
+    {
+        let width = T::width() as usize;
+        let word = at / width;
+        if word >= self.words.count() {
+            return None;
+        }
+        if let Some(x) = self.words.next_in_word(word, (at % width) as u8) {
+            return Some(x);
+        }
+        match self.summary.next(word + 1) {
+            Some(k) => self.words.next_in_word(k, 0),
+            None => None,
+        }
+    }
+
+    /// The greatest member below `end`, likewise.
+    fn last(&self, end: usize) -> Option<usize>
+        ensures { LastBefore self.now.members end result }
+    {
+        let width = T::width() as usize;
+        let word = end / width;
+        if word < self.words.count() {
+            if let Some(x) = self.words.last_in_word(word, (end % width) as u8) {
+                return Some(x);
+            }
+        }
+        match self.summary.last(word) {
+            Some(k) => self.words.last_in_word(k, T::width()),
+            None => None,
+        }
+    }
+
+    // How many words there are up to that of the greatest member.
+    fn words_in_use(&self) -> usize
+        ensures within { result ≤ self.now.words }
+        ensures reach { (i : ℕ) → fin_set.contains self.now.members i ≡ true → i < result * T.width }
+        ensures last { (k : ℕ) → k + 1 ≡ result → IsWordEmpty T.width self.now.members k → ⊥ }
+    {
+        let _ = &self.words;
+        match self.max() {
+            Some(max) => max / T::width() as usize + 1,
+            None => 0,
+        }
+    }
+
+    // Puts the members of all words of summary word `s` at the end of `list`: one look, and one a word.
+    fn push_block<L: Ledger>(
+        &self,
+        s: usize,
+        list: &mut TryVec<usize>,
+        steps: &mut Steps<L>,
+    ) -> Result<(), OutOfMemory>
+        requires { s < summary_count T.width self.now.words }
+        ensures members { OnOk result (list.new.items ≡ list.old.items ++ block_members T.width self.now.members s) }
+        ensures looks { steps.new ≤ steps.old + 1 + length (block_words T.width self.now.members s) }
+    {
+        let start = self.summary.start(s);
+        let mut block = self.summary.read(s, steps);
+        while let Some(place) = block.pop_min() {
+            self.words
+                .push_members(start + place as usize, list, steps)?;
+        }
+        Ok(())
+    }
+}
