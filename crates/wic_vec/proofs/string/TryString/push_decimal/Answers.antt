@@ -7,5 +7,5 @@ pub unreachable-requires : goal.unreachable-requires
 unreachable-requires c =
     let w = c.write_digits-start in
     c.in-Err.ensures.cases.0 (IsUtf8-from_ascii _
-        (rw (take_all (20 - w.result) (drop w.result w.new.digits) (omega (arith, length-drop w.result w.new.digits)), w.ensures.written)
-        (IsAscii-decimal c.args.number c.ranges.number.fits)))
+    (rw (take_all (20 - w.result) (drop w.result w.new.digits) (omega (arith, length-drop w.result w.new.digits)), w.ensures.written)
+    (IsAscii-decimal c.args.number c.ranges.number.fits)))

@@ -6,9 +6,11 @@ use Rattle.wic_vec.proofs.string.decimal.write_digits.Goals as goal
 
 pub loop-left-init : goal.loop-left-init
 loop-left-init c =
-    let small : c.args.number < 10 ^ 20 = omega (arith, c.ranges.number.fits) in
-    (length-decimal-le 20 c.args.number (omega arith) small c.ranges.number.fits, omega arith,
-        rw (drop_all 20 c.args.digits.now (omega arith), append-nil))
+    let small : c.args.number < 10 ^ 20 = omega (arith, c.ranges.number.fits) in (
+      length-decimal-le 20 c.args.number (omega arith) small c.ranges.number.fits,
+      omega arith,
+      rw (drop_all 20 c.args.digits.now (omega arith), append-nil),
+    )
 
 pub overflow_sub-start : goal.overflow_sub-start
 overflow_sub-start c = omega (arith, decimal_nonempty c.loop-left.left c.loop-left.auto.left-fits.fits, c.loop-left.invariant.0)
