@@ -1,61 +1,81 @@
--- Runs that go on by one item.
-use Rattle.std.proofs.Common.{◌≡◌, ℕ, List, [], ◌∷◌, ◌++◌, map, refl, ap, ◌∙◌, subst}
+-- Steps of the machine, and runs that go on by one item.
+use Rattle.std.proofs.Common.{◌≡◌, ℕ, ◌+◌, List, [], ◌∷◌, ◌++◌, refl, sym, ap, ◌∙◌, inl, append_assoc, length, arith, Some, None}
+use Rattle.std.specs.Prelude.{codes}
 use Rattle.std.specs.List.{flat_map}
 use Rattle.std.proofs.lemmas.List.{append-nil}
-use Rattle.batch_core.specs.State.{State, Contents}
-use Rattle.batch_core.specs.Batch.{contents_after, replies_of}
-use Rattle.batch_core.specs.Command.{effect_of, reply_of}
+use Rattle.std.proofs.lemmas.List.Concat.{flat_map-append}
+use Rattle.batch_core.specs.State.{State, empty_state}
+use Rattle.batch_core.specs.Batch.{Outcome, committed, refused, outcome_of}
+use Rattle.batch_core.specs.Applied.{RefusedFor}
+use Rattle.batch_core.specs.Workspace.{Workspace}
+use Rattle.batch_core.specs.declared.command.Cause.{Cause}
+use Rattle.batch_core.specs.declared.command.Cause.TheVariants.{Empty, Position, Vacant, Full, TooLarge, Oom}
 use Rattle.batch_core.specs.declared.command.Command.{Command}
-use Rattle.batch_script.specs.Machine.{Item, Reply, ItemStep, Run}
-use Rattle.batch_script.specs.Grammar.{Line}
-use Rattle.batch_script.specs.Reply.{text_of, text_of_lines, reply_lines, command_reply_line}
-use Rattle.batch_script.proofs.Lists.{flat_map-append, map-append}
-
--- a run, and the state after it
-abbrev pub RunTo : State ℕ → List Item → List Reply → State ℕ → Type 0
-RunTo state [] [] last = last ≡ state
-RunTo state (item ∷ items) (reply ∷ replies) last = (next : State ℕ) × ItemStep state item reply next × RunTo next items replies last
-RunTo state [] (reply ∷ replies) last = ⊥
-RunTo state (item ∷ items) [] last = ⊥
-
-pub Run-to : (state last : State ℕ) (items : List Item) (replies : List Reply) → RunTo state items replies last → Run state items replies
-Run-to state last [] [] run = tt
-Run-to state last (item ∷ items) (reply ∷ replies) run = (run.0, run.1, Run-to run.0 last items replies run.2)
-Run-to state last [] (reply ∷ replies) run = run
-Run-to state last (item ∷ items) [] run = run
-
-pub RunTo-more : (state middle last : State ℕ) (items : List Item) (replies : List Reply) (item : Item) (reply : Reply) → RunTo state items replies middle → ItemStep middle item reply last → RunTo state (items ++ item ∷ []) (replies ++ reply ∷ []) last
-RunTo-more state middle last [] [] item reply run step = (last, subst (λ at. ItemStep at item reply last) run step, refl)
-RunTo-more state middle last (first ∷ items) (answer ∷ replies) item reply run step =
-    (run.0, run.1, RunTo-more run.0 middle last items replies item reply run.2 step)
-RunTo-more state middle last [] (answer ∷ replies) item reply run step = absurd run
-RunTo-more state middle last (first ∷ items) [] item reply run step = absurd run
-
-pub text_of_lines-append : (xs ys : List Line) → text_of_lines (xs ++ ys) ≡ text_of_lines xs ++ text_of_lines ys
-text_of_lines-append xs ys = flat_map-append (λ line. line ++ 10 ∷ []) xs ys
-
-pub text_of-append : (xs ys : List Reply) → text_of (xs ++ ys) ≡ text_of xs ++ text_of ys
-text_of-append xs ys =
-    ap text_of_lines (flat_map-append reply_lines xs ys) ∙ text_of_lines-append (flat_map reply_lines xs) (flat_map reply_lines ys)
+use Rattle.batch_core.specs.declared.command.End.{End}
+use Rattle.batch_core.specs.declared.record.Record.{Record}
+use Rattle.batch_script.specs.declared.item.Item.{Item as SourceItem}
+use Rattle.batch_script.specs.declared.kind.BatchKind.{BatchKind}
+use Rattle.batch_script.specs.Kind.{kind_of_cause, kind_text}
+use Rattle.batch_script.specs.Machine.{Item, batch, Reply, answered, ItemStep, Run}
+use Rattle.batch_script.specs.Reading.{plain_item, plain_items}
+use Rattle.batch_script.specs.Reply.{record_lines, outcome_lines, reply_lines, cause_text, text_of, text_of_lines}
+use Rattle.batch_script.specs.RunText.{IsTextOfRun, Answers, state_of}
 
 -- one more reply
-pub text_of-more : (replies : List Reply) (reply : Reply) → text_of (replies ++ reply ∷ []) ≡ text_of replies ++ text_of_lines (reply_lines reply)
+pub text_of-more : (replies : List Reply) (reply : Reply)
+    → text_of (replies ++ reply ∷ []) ≡ text_of replies ++ text_of_lines (reply_lines reply)
 text_of-more replies reply =
-    text_of-append replies (reply ∷ []) ∙ ap (λ lines. text_of replies ++ text_of_lines lines) (append-nil (reply_lines reply))
+    rw (flat_map-append reply_lines replies (reply ∷ []), append-nil) (flat_map-append _ (flat_map reply_lines replies) (reply_lines reply))
 
--- one more command
-pub contents_after-more : (contents : Contents ℕ) (commands : List (Command ℕ)) (command : Command ℕ) → contents_after contents (commands ++ command ∷ []) ≡ effect_of (contents_after contents commands) command
-contents_after-more contents [] command = refl
-contents_after-more contents (first ∷ commands) command = contents_after-more (effect_of contents first) commands command
+-- the text of a batch that was committed: the lines of its records, and one more
+pub text-committed : (records : List (Record ℕ))
+    → text_of_lines (flat_map record_lines records) ++ codes "committed\n" ≡ text_of_lines (outcome_lines (committed records))
+text-committed records = sym (flat_map-append _ (flat_map record_lines records) (codes "committed" ∷ []))
 
-pub replies_of-more : (contents : Contents ℕ) (commands : List (Command ℕ)) (command : Command ℕ) → replies_of contents (commands ++ command ∷ []) ≡ replies_of contents commands ++ reply_of (contents_after contents commands) command ∷ []
-replies_of-more contents [] command = refl
-replies_of-more contents (first ∷ commands) command =
-    ap (λ later. reply_of contents first ∷ later) (replies_of-more (effect_of contents first) commands command)
+module _ (old new : Workspace ℕ) (commands : List (Command ℕ)) (ending : End) (same_room : new.room ≡ old.room) where
+  -- a batch came to its outcome, and the room stays
+  pub batch_step : (outcome : Outcome ℕ) → outcome_of old.contents commands ending ≡ (outcome, new.contents)
+      → ItemStep (state_of old) (batch commands ending) (answered outcome) (state_of new)
+  batch_step outcome came =
+      inl (rw came (λ t. (answered outcome, record { contents = new.contents; room = same_room t })))
 
-pub replies_text-more : (contents : Contents ℕ) (commands : List (Command ℕ)) (command : Command ℕ) → text_of_lines (map command_reply_line (replies_of contents (commands ++ command ∷ []))) ≡ text_of_lines (map command_reply_line (replies_of contents commands)) ++ text_of_lines (command_reply_line (reply_of (contents_after contents commands) command) ∷ [])
-replies_text-more contents commands command =
-    let reply = reply_of (contents_after contents commands) command in
-    ap (λ replies. text_of_lines (map command_reply_line replies)) (replies_of-more contents commands command)
-    ∙ (ap text_of_lines (map-append command_reply_line (replies_of contents commands) (reply ∷ []))
-    ∙ text_of_lines-append (map command_reply_line (replies_of contents commands)) (command_reply_line reply ∷ []))
+  -- a batch was refused for a cause, which is no want of memory
+  pub refused_step : (cause : Cause) (at : ℕ) (why : BatchKind) → kind_of_cause cause ≡ Some why
+      → new.contents ≡ old.contents → RefusedFor old.room old.contents commands ending cause at
+      → ItemStep (state_of old) (batch commands ending) (answered (refused (record { cause = cause; at = at }))) (state_of new)
+  refused_step (Oom size) at why is same came = let none : None ≡ Some why = is in cc
+  refused_step Empty at why is same came = batch_step _ (rw same came)
+  refused_step Position at why is same came = batch_step _ (rw same came)
+  refused_step Vacant at why is same came = batch_step _ (rw same came)
+  refused_step Full at why is same came = batch_step _ (rw same came)
+  refused_step TooLarge at why is same came = batch_step _ (rw same came)
+
+-- the words of a cause are those of its kind
+pub cause_text-kind : (cause : Cause) (why : BatchKind) → kind_of_cause cause ≡ Some why → cause_text cause ≡ kind_text why
+cause_text-kind cause why is = rw is refl
+
+-- a run of all items, as far as it has come: the replies so far are written, and any run of the items that are left
+-- goes on from them
+pub record IsUnderWay (all : List Item) (workspace : Workspace ℕ) (text : List ℕ) (left : List SourceItem) (count : ℕ) : Type 0 where
+  pub replies : List Reply
+  pub written : text ≡ text_of replies
+  pub goes_on : (later : List Reply) → Run (state_of workspace) (plain_items left) later → Run empty_state all (replies ++ later)
+  pub counted : count ≡ length left
+
+-- it goes on by one item
+pub under_way-more : (all : List Item) (old new : Workspace ℕ) (before after : List ℕ) (left rest : List SourceItem) (item : SourceItem)
+    (count fewer : ℕ) → IsUnderWay all old before left count → left ≡ item ∷ rest → fewer + 1 ≡ count
+    → Answers (plain_item item) old new before after → IsUnderWay all new after rest fewer
+under_way-more all old new before after left rest item count fewer so_far parts one answer = record {
+  replies = so_far.replies ++ answer.reply ∷ [];
+  written = answer.written ∙ ap (λ bytes. bytes ++ text_of_lines (reply_lines answer.reply)) so_far.written
+      ∙ sym (text_of-more so_far.replies answer.reply);
+  goes_on = λ later run. rw append_assoc (so_far.goes_on (answer.reply ∷ later) (rw parts (state_of new, answer.step, run)));
+  counted = omega (arith, so_far.counted, ap length parts);
+}
+
+-- and where no item is left the text is that of a run of all items
+pub text_of_run : (all : List Item) (workspace : Workspace ℕ) (text : List ℕ) (left : List SourceItem) (count : ℕ)
+    → IsUnderWay all workspace text left count → count ≡ 0 → IsTextOfRun all text
+text_of_run all workspace text [] count so_far none = (so_far.replies, rw append-nil at (so_far.goes_on [] tt), so_far.written)
+text_of_run all workspace text (item ∷ left) count so_far none = absurd (omega (arith, so_far.counted))

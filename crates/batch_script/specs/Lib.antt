@@ -3,6 +3,7 @@ pub mod Attempt
 pub mod Device
 pub mod Grammar
 pub mod Headline
+pub mod Kind
 pub mod Machine
 pub mod MemoryDevice
 pub mod Reading

@@ -1,15 +1,19 @@
 -- The text of replies.
 use Rattle.std.specs.Prelude.{ℕ, true, false, List, [], ◌∷◌, ◌++◌, codes}
 use Rattle.std.specs.List.{flat_map}
+use Rattle.std.specs.Option.{option_map_or}
 use Rattle.std.specs.Fmt.{decimal}
 use Rattle.std.specs.FinMap.{entries}
 use Rattle.wic_bitset.specs.Rising.{rising}
 use Rattle.batch_core.specs.Batch.{Outcome, committed, aborted, refused}
 use Rattle.batch_core.specs.declared.command.Cause.{Cause}
-use Rattle.batch_core.specs.declared.command.Cause.TheVariants.{Empty, Position, Vacant, Full, TooLarge, Oom}
 use Rattle.batch_core.specs.declared.record.Record.{Record}
 use Rattle.batch_core.specs.declared.record.Record.TheVariants.{Pushed, Popped, Replaced, Allocated, Freed, Put as Overwritten}
 use Rattle.batch_core.specs.declared.record.Record.TheVariants.{Inserted, Removed, Cut, Truncated}
+use Rattle.wic_error.specs.Chain.{line}
+use Rattle.batch_script.specs.declared.kind.BatchKind.{BatchKind}
+use Rattle.batch_script.specs.declared.kind.BatchKind.TheVariants.{TooLarge, Command, Reserve}
+use Rattle.batch_script.specs.Kind.{kind_text, kind_of_cause}
 use Rattle.batch_script.specs.Machine.{Reply, reserved, reserve_too_large, shown, answered, no_memory}
 use Rattle.batch_script.specs.Grammar.{Line}
 
@@ -34,22 +38,17 @@ no_memory_text = codes "out of memory"
 
 -- why a command was refused, in words
 abbrev pub cause_text : Cause → List ℕ
-cause_text Empty = codes "list is empty"
-cause_text Position = codes "position is not below the length"
-cause_text Vacant = codes "id is not live"
-cause_text Full = codes "table is full"
-cause_text TooLarge = codes "number is too large"
-cause_text (Oom size) = no_memory_text
+cause_text cause = option_map_or kind_text (kind_of_cause cause) no_memory_text
 
--- a refusal: what was refused, and why
-abbrev pub refusal_line : List ℕ → List ℕ → Line
-refusal_line what why = codes "refused: " ++ what ++ codes ": " ++ why
+-- a refusal: the line of an error whose root is why, in the context of what was refused
+abbrev pub refusal_line : BatchKind → List ℕ → Line
+refusal_line what why = codes "refused: " ++ line (kind_text what ∷ why ∷ [])
 
 -- the lines of what a batch came to
 abbrev pub outcome_lines : Outcome ℕ → List Line
 outcome_lines (committed records) = flat_map record_lines records ++ codes "committed" ∷ []
 outcome_lines aborted = codes "aborted" ∷ []
-outcome_lines (refused bad) = refusal_line (codes "command " ++ decimal bad.at) (cause_text bad.cause) ∷ []
+outcome_lines (refused bad) = refusal_line (Command bad.at) (cause_text bad.cause) ∷ []
 
 -- a word, and one space and a text for each element
 abbrev pub listing : {X : Type 0} → List ℕ → (X → List ℕ) → List X → Line
@@ -62,7 +61,7 @@ pair_text pair = decimal pair.0 ++ codes "=" ++ decimal pair.1
 -- the lines of the reply to one item
 abbrev pub reply_lines : Reply → List Line
 reply_lines reserved = codes "reserved" ∷ []
-reply_lines reserve_too_large = refusal_line (codes "reserve") (cause_text TooLarge) ∷ []
+reply_lines reserve_too_large = refusal_line Reserve (kind_text TooLarge) ∷ []
 reply_lines (shown list set live next) =
     listing (codes "list") decimal list
     ∷ listing (codes "set") decimal (rising set)

@@ -1,9 +1,10 @@
 -- The text that a run of a script writes.
-use Rattle.std.specs.Prelude.{◌≡◌, ℕ, List}
-use Rattle.batch_core.specs.State.{empty_state}
+use Rattle.std.specs.Prelude.{◌≡◌, ℕ, List, ◌++◌}
+use Rattle.batch_core.specs.State.{State, empty_state}
+use Rattle.batch_core.specs.Workspace.{Workspace}
 use Rattle.batch_script.specs.Grammar.{IsScriptOf}
-use Rattle.batch_script.specs.Machine.{Item, Reply, Run}
-use Rattle.batch_script.specs.Reply.{text_of}
+use Rattle.batch_script.specs.Machine.{Item, Reply, ItemStep, Run}
+use Rattle.batch_script.specs.Reply.{reply_lines, text_of, text_of_lines}
 
 -- the text is that of the replies of one run of the items from empty
 abbrev pub IsTextOfRun : List Item → List ℕ → Type 0
@@ -12,3 +13,13 @@ IsTextOfRun items text = (replies : List Reply) × Run empty_state items replies
 -- the input is a script, and the text is that of one run of its items from empty
 abbrev pub IsRunText : List ℕ → List ℕ → Type 0
 IsRunText input text = (items : List Item) × IsScriptOf input items × IsTextOfRun items text
+
+-- the state of the plain machine that a workspace stands for
+abbrev pub state_of : Workspace ℕ → State ℕ
+state_of workspace = record { contents = workspace.contents; room = workspace.room }
+
+-- the item took the workspace from old to new, with a reply that the machine may give and whose text was written
+pub record Answers (item : Item) (old new : Workspace ℕ) (before after : List ℕ) : Type 0 where
+  pub reply : Reply
+  pub step : ItemStep (state_of old) item reply (state_of new)
+  pub written : after ≡ before ++ text_of_lines (reply_lines reply)

@@ -9,7 +9,8 @@ ghost use Rattle.batch_script.specs.Machine.{Item};
 ghost use Rattle.batch_script.specs.declared.program.Status.{Status};
 
 use crate::device::{Failed, Sink, Source};
-use crate::runner::{RunError, run};
+use crate::run_error::RunError;
+use crate::runner::run;
 use std::alloc::Global;
 use wic_vec::{TryString, TryVec};
 

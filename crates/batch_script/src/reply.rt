@@ -1,48 +1,134 @@
 //! Writes replies.
-ghost use Rattle.std.specs.Prelude.{◌≡◌, ◌∷◌, [], ◌++◌, ℕ, map, OnOk};
-ghost use Rattle.batch_core.specs.State.{Contents};
-ghost use Rattle.batch_core.specs.Batch.{replies_of};
-ghost use Rattle.batch_core.specs.Command.{reply_of};
-ghost use Rattle.batch_script.specs.Reply.{command_reply_line, outcome_lines, text_of_lines};
-ghost use Rattle.batch_script.specs.Step.{outcome_done};
+ghost use Rattle.std.specs.Prelude.{◌≡◌, ◌∷◌, [], ◌++◌, ℕ, codes, OnOk};
+ghost use Rattle.std.specs.List.{flat_map};
+ghost use Rattle.std.specs.Fmt.{decimal};
+ghost use Rattle.std.specs.FinMap.{entries};
+ghost use Rattle.wic_bitset.specs.Rising.{rising};
+ghost use Rattle.batch_script.specs.Kind.{kind_text};
+ghost use Rattle.batch_script.specs.Machine.{shown_of};
+ghost use Rattle.batch_script.specs.Reply.{record_lines, refusal_line, reply_lines, listing, text_of_lines, pair_text};
 
-use crate::apply::Done;
-use batch_core::Command;
+use crate::kind::BatchKind;
+use batch_core::{Record, Workspace};
+use std::alloc::Global;
 use wic_base::OutOfMemory;
+use wic_bitset::CompoundBitSet;
+use wic_error::{ChainItem, Error};
+use wic_slab::Slab;
 use wic_vec::TryString;
 
-/// Writes what a batch that was done came to: the reply of each command of one that was committed, and how it ended.
-pub(crate) fn push_outcome(
-    text: &mut TryString,
-    commands: &[Command<u64>],
-    done: Done,
-) -> Result<(), OutOfMemory>
-    ensures ok { OnOk result ((contents : Contents ℕ) → text.new.bytes ≡ text.old.bytes ++ text_of_lines (outcome_lines (outcome_done done contents commands.now))) }
+/// Writes the lines of records: the replies of the commands that left them.
+pub(crate) fn push_records(text: &mut TryString, records: &[Record<u64>]) -> Result<(), OutOfMemory>
+    ensures lines { OnOk result (text.new.bytes ≡ text.old.bytes ++ text_of_lines (flat_map record_lines records.now)) }
 {
-    match done {
-        Done::Committed => {
-            push_command_replies(text, commands)?;
-            text.push_str("committed\n")
-        }
-        Done::Aborted => text.push_str("aborted\n"),
-    }
-}
-
-/// Writes the reply of each command.
-fn push_command_replies(text: &mut TryString, commands: &[Command<u64>]) -> Result<(), OutOfMemory>
-    ensures ok { OnOk result ((contents : Contents ℕ) → text.new.bytes ≡ text.old.bytes ++ text_of_lines (map command_reply_line (replies_of contents commands.now))) }
-{
-    for command in commands {
-        push_command_reply(text, command)?;
+    for entry in records {
+        push_record(text, entry)?;
     }
     Ok(())
 }
 
-/// Writes the reply of one command.
-fn push_command_reply(text: &mut TryString, command: &Command<u64>) -> Result<(), OutOfMemory>
-    ensures ok { OnOk result ((contents : Contents ℕ) → text.new.bytes ≡ text.old.bytes ++ text_of_lines (command_reply_line (reply_of contents command.now) ∷ [])) }
+/// Writes the line of a record, if it has one.
+fn push_record(text: &mut TryString, entry: &Record<u64>) -> Result<(), OutOfMemory>
+    ensures lines { OnOk result (text.new.bytes ≡ text.old.bytes ++ text_of_lines (record_lines entry.now)) }
 {
-    match command {
-        Command::Push(_) => text.push_str("ok\n"),
+    match entry {
+        Record::Pushed => text.push_str("ok\n"),
+        Record::Popped(value) => push_number(text, "popped ", *value),
+        Record::Replaced { at: _, old } => push_number(text, "was ", *old),
+        Record::Allocated { id } => push_number(text, "id ", *id as u64),
+        Record::Freed { id: _, old } => push_number(text, "freed ", *old),
+        Record::Put { id: _, old } => push_number(text, "was ", *old),
+        Record::Inserted { number: _, was_new } => {
+            text.push_str(if *was_new { "new\n" } else { "present\n" })
+        }
+        Record::Removed {
+            number: _,
+            was_there,
+        } => text.push_str(if *was_there { "removed\n" } else { "absent\n" }),
+        Record::Cut(_) => Ok(()),
+        Record::Truncated { removed } => push_number(text, "cut ", *removed),
     }
+}
+
+/// Writes a line of a word and a number.
+fn push_number(text: &mut TryString, word: &str, number: u64) -> Result<(), OutOfMemory>
+    ensures line { OnOk result (text.new.bytes ≡ text.old.bytes ++ text_of_lines ((word.now ++ decimal number) ∷ [])) }
+{
+    text.push_str(word)?;
+    text.push_decimal(number)?;
+    text.push('\n')
+}
+
+/// Writes the line of a refusal: that of an error whose root is `why`, in the context of what was refused.
+pub(crate) fn push_refusal(
+    alloc: Global,
+    text: &mut TryString,
+    what: BatchKind,
+    why: BatchKind,
+) -> Result<(), OutOfMemory>
+    ensures line { OnOk result (text.new.bytes ≡ text.old.bytes ++ text_of_lines (refusal_line what (kind_text why) ∷ [])) }
+{
+    let error = Error::new(alloc, why).context(alloc, what);
+    if let ChainItem::Oom(oom) = error.root_cause() {
+        return Err(oom);
+    }
+    let line = error.line(alloc)?;
+    text.push_str("refused: ")?;
+    text.push_str(line.as_str())?;
+    text.push('\n')
+}
+
+/// Writes list, set and table, and the next id.
+pub(crate) fn push_contents(text: &mut TryString, workspace: &Workspace<u64>) -> Result<(), OutOfMemory>
+    ensures lines { OnOk result (text.new.bytes ≡ text.old.bytes ++ text_of_lines (reply_lines (shown_of workspace.now.contents))) }
+{
+    push_list(text, workspace.list())?;
+    push_set(text, workspace.set())?;
+    push_table(text, workspace.table())?;
+    push_number(text, "next ", workspace.table().next_id().into_raw() as u64)
+}
+
+/// Writes the values of a list, in order.
+fn push_list(text: &mut TryString, list: &[u64]) -> Result<(), OutOfMemory>
+    ensures line { OnOk result (text.new.bytes ≡ text.old.bytes ++ text_of_lines (listing (codes "list") decimal list.now ∷ [])) }
+{
+    text.push_str("list")?;
+    for value in list {
+        push_element(text, *value)?;
+    }
+    text.push('\n')
+}
+
+/// Writes the members of a set, rising.
+fn push_set(text: &mut TryString, set: &CompoundBitSet<u64>) -> Result<(), OutOfMemory>
+    ensures line { OnOk result (text.new.bytes
+        ≡ text.old.bytes ++ text_of_lines (listing (codes "set") decimal (rising set.now.members) ∷ [])) }
+{
+    text.push_str("set")?;
+    for member in set.iter() {
+        push_element(text, member as u64)?;
+    }
+    text.push('\n')
+}
+
+/// Writes the live ids of a table with their values, ids rising.
+fn push_table(text: &mut TryString, table: &Slab<u64>) -> Result<(), OutOfMemory>
+    ensures line { OnOk result (text.new.bytes
+        ≡ text.old.bytes ++ text_of_lines (listing (codes "table") pair_text (entries table.now.live) ∷ [])) }
+{
+    text.push_str("table")?;
+    for (id, value) in table.iter() {
+        push_element(text, id.into_raw() as u64)?;
+        text.push('=')?;
+        text.push_decimal(*value)?;
+    }
+    text.push('\n')
+}
+
+/// Writes a number behind a space.
+fn push_element(text: &mut TryString, number: u64) -> Result<(), OutOfMemory>
+    ensures element { OnOk result (text.new.bytes ≡ text.old.bytes ++ 32 ∷ decimal number) }
+{
+    text.push(' ')?;
+    text.push_decimal(number)
 }

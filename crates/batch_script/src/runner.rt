@@ -1,89 +1,98 @@
 //! Runs a script.
 ghost use Rattle.std.specs.Prelude.{◌≡◌, ◌++◌, IfOk, IfErr, OnOk};
-ghost use Rattle.batch_script.specs.Machine.{ItemStep, Reply, batch as batch_item};
+ghost use Rattle.batch_script.specs.Machine.{Item as PlainItem, ItemStep, Reply, reserve as reservation, batch as plain_batch};
 ghost use Rattle.batch_script.specs.Reading.{plain_item, plain_items};
 ghost use Rattle.batch_script.specs.Refusal.{IsJustified};
-ghost use Rattle.batch_script.specs.Reply.{reply_lines, text_of_lines};
-ghost use Rattle.batch_script.specs.RunText.{IsRunText, IsTextOfRun};
-ghost use Rattle.batch_script.specs.Step.{state_of};
+ghost use Rattle.batch_script.specs.RunText.{IsRunText, IsTextOfRun, Answers, state_of};
 
-use crate::apply::apply;
 use crate::item::Item;
+use crate::kind::BatchKind;
 use crate::parse::parse;
-use crate::reply::push_outcome;
-use batch_core::Batch;
+use crate::reply::{push_contents, push_records, push_refusal};
+use crate::run_error::RunError;
+use batch_core::{Batch, Done, Refusal, ReserveRefusal, Workspace};
 use std::alloc::Global;
 use wic_base::OutOfMemory;
 use wic_vec::{TryString, TryVec};
 
-/// Why a script was not run to its end. Own.
-#[derive(Clone, Copy, Debug, PartialEq, Eq)]
-pub enum RunError {
-    /// The input is no script: the line of the fault, counted from 1.
-    Syntax { line: u64 },
-    /// There was no memory to read the script or to make its replies.
-    Oom,
-}
-
-impl From<OutOfMemory> for RunError {
-    ghost use Rattle.std.specs.Prelude.{◌≡◌};
-    ghost use Rattle.batch_script.specs.declared.runner.RunError.TheVariants.{Oom};
-
-    ghost from_gives = { λ _ error. error ≡ Oom };
-
-    fn from(_: OutOfMemory) -> RunError {
-        RunError::Oom
-    }
-}
-
-/// Reads the whole input as a script and runs its items from an empty list: the text of their replies. Own.
+/// Reads the whole input as a script and runs its items from an empty workspace: the text of their replies. Own.
 ///
-/// `Syntax` says that the input is no script and where its fault is; nothing was run then. `Oom` says that there
-/// was no memory to read the script or to make a reply. A batch that finds no memory is answered, and the run goes
-/// on.
+/// `Syntax` says that the input is no script and where its fault is; nothing was run then. `Oom` says that there was no
+/// memory to read the script or to make a reply. A batch or a reservation that finds no memory is answered, and the run
+/// goes on.
 pub fn run(alloc: Global, input: &[u8]) -> Result<TryString, RunError>
     ensures text { IfOk result (λ text. IsRunText input.now text.bytes) }
     ensures refusal { IfErr result (IsJustified input.now) }
 {
     let script = parse(alloc, input)?;
-    Ok(run_items(alloc, script.items.as_slice())?)
+    Ok(run_items(alloc, script.items)?)
 }
 
-/// Runs items from an empty list.
-fn run_items(alloc: Global, items: &[Item]) -> Result<TryString, OutOfMemory>
-    ensures text { IfOk result (λ text. IsTextOfRun (plain_items items.now) text.bytes) }
+/// Runs items from an empty workspace.
+fn run_items(alloc: Global, items: TryVec<Item>) -> Result<TryString, OutOfMemory>
+    ensures text { IfOk result (λ text. IsTextOfRun (plain_items items.items) text.bytes) }
 {
-    let mut list = TryVec::new(alloc);
+    let mut workspace = Workspace::new(alloc);
     let mut text = TryString::new(alloc);
     for item in items {
-        run_item(item, &mut list, &mut text)?;
+        run_item(alloc, item, &mut workspace, &mut text)?;
     }
     Ok(text)
 }
 
 /// Runs one item and writes its reply.
-fn run_item(item: &Item, list: &mut TryVec<u64>, text: &mut TryString) -> Result<(), OutOfMemory>
-    ensures step { OnOk result ((reply : Reply)
-        × ItemStep (state_of list.old.items) (plain_item item.now) reply (state_of list.new.items)
-        × (text.new.bytes ≡ text.old.bytes ++ text_of_lines (reply_lines reply))) }
+fn run_item(
+    alloc: Global,
+    item: Item,
+    workspace: &mut Workspace<u64>,
+    text: &mut TryString,
+) -> Result<(), OutOfMemory>
+    ensures answered { OnOk result (Answers (plain_item item) workspace.old workspace.new text.old.bytes text.new.bytes) }
 {
     match item {
-        Item::Batch(batch) => run_batch(batch, list, text),
+        Item::Reserve(number) => run_reserve(alloc, number, workspace, text),
+        Item::Show => push_contents(text, workspace),
+        Item::Batch(batch) => run_batch(alloc, batch, workspace, text),
+    }
+}
+
+/// Makes the room larger and writes the reply.
+fn run_reserve(
+    alloc: Global,
+    number: u64,
+    workspace: &mut Workspace<u64>,
+    text: &mut TryString,
+) -> Result<(), OutOfMemory>
+    ensures answered { OnOk result (Answers (reservation number) workspace.old workspace.new text.old.bytes text.new.bytes) }
+{
+    match workspace.reserve(number) {
+        Ok(()) => text.push_str("reserved\n"),
+        Err(ReserveRefusal::TooLarge) => {
+            push_refusal(alloc, text, BatchKind::Reserve, BatchKind::TooLarge)
+        }
+        Err(ReserveRefusal::Oom(_)) => text.push_str("refused: out of memory\n"),
     }
 }
 
 /// Runs a batch and writes its reply.
 fn run_batch(
-    batch: &Batch<u64>,
-    list: &mut TryVec<u64>,
+    alloc: Global,
+    batch: Batch<u64>,
+    workspace: &mut Workspace<u64>,
     text: &mut TryString,
 ) -> Result<(), OutOfMemory>
-    ensures step { OnOk result ((reply : Reply)
-        × ItemStep (state_of list.old.items) (batch_item batch.now.commands.items batch.now.end) reply (state_of list.new.items)
-        × (text.new.bytes ≡ text.old.bytes ++ text_of_lines (reply_lines reply))) }
+    ensures answered { OnOk result
+        (Answers (plain_batch batch.commands.items batch.end) workspace.old workspace.new text.old.bytes text.new.bytes) }
 {
-    match apply(list, batch) {
-        Ok(done) => push_outcome(text, batch.commands.as_slice(), done),
-        Err(_) => text.push_str("refused: out of memory\n"),
+    match workspace.apply(batch) {
+        Ok(Done::Committed) => {
+            push_records(text, workspace.replies())?;
+            text.push_str("committed\n")
+        }
+        Ok(Done::Aborted) => text.push_str("aborted\n"),
+        Err(Refusal { cause, at }) => match BatchKind::of_cause(cause) {
+            Some(why) => push_refusal(alloc, text, BatchKind::Command(at), why),
+            None => text.push_str("refused: out of memory\n"),
+        },
     }
 }
