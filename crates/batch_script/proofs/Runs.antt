@@ -24,7 +24,8 @@ Run-to state last (item ∷ items) (reply ∷ replies) run = (run.0, run.1, Run-
 Run-to state last [] (reply ∷ replies) run = run
 Run-to state last (item ∷ items) [] run = run
 
-pub RunTo-more : (state middle last : State ℕ) (items : List Item) (replies : List Reply) (item : Item) (reply : Reply) → RunTo state items replies middle → ItemStep middle item reply last → RunTo state (items ++ item ∷ []) (replies ++ reply ∷ []) last
+pub RunTo-more : (state middle last : State ℕ) (items : List Item) (replies : List Reply) (item : Item) (reply : Reply)
+    → RunTo state items replies middle → ItemStep middle item reply last → RunTo state (items ++ item ∷ []) (replies ++ reply ∷ []) last
 RunTo-more state middle last [] [] item reply run step = (last, subst (λ at. ItemStep at item reply last) run step, refl)
 RunTo-more state middle last (first ∷ items) (answer ∷ replies) item reply run step =
     (run.0, run.1, RunTo-more run.0 middle last items replies item reply run.2 step)
@@ -39,21 +40,28 @@ text_of-append xs ys =
     ap text_of_lines (flat_map-append reply_lines xs ys) ∙ text_of_lines-append (flat_map reply_lines xs) (flat_map reply_lines ys)
 
 -- one more reply
-pub text_of-more : (replies : List Reply) (reply : Reply) → text_of (replies ++ reply ∷ []) ≡ text_of replies ++ text_of_lines (reply_lines reply)
+pub text_of-more : (replies : List Reply) (reply : Reply)
+    → text_of (replies ++ reply ∷ []) ≡ text_of replies ++ text_of_lines (reply_lines reply)
 text_of-more replies reply =
     text_of-append replies (reply ∷ []) ∙ ap (λ lines. text_of replies ++ text_of_lines lines) (append-nil (reply_lines reply))
 
 -- one more command
-pub contents_after-more : (contents : Contents ℕ) (commands : List (Command ℕ)) (command : Command ℕ) → contents_after contents (commands ++ command ∷ []) ≡ effect_of (contents_after contents commands) command
+pub contents_after-more : (contents : Contents ℕ) (commands : List (Command ℕ)) (command : Command ℕ)
+    → contents_after contents (commands ++ command ∷ []) ≡ effect_of (contents_after contents commands) command
 contents_after-more contents [] command = refl
 contents_after-more contents (first ∷ commands) command = contents_after-more (effect_of contents first) commands command
 
-pub replies_of-more : (contents : Contents ℕ) (commands : List (Command ℕ)) (command : Command ℕ) → replies_of contents (commands ++ command ∷ []) ≡ replies_of contents commands ++ reply_of (contents_after contents commands) command ∷ []
+pub replies_of-more : (contents : Contents ℕ) (commands : List (Command ℕ)) (command : Command ℕ)
+    → replies_of contents (commands ++ command ∷ []) ≡ replies_of contents commands ++ reply_of
+    (contents_after contents commands) command ∷ []
 replies_of-more contents [] command = refl
 replies_of-more contents (first ∷ commands) command =
     ap (λ later. reply_of contents first ∷ later) (replies_of-more (effect_of contents first) commands command)
 
-pub replies_text-more : (contents : Contents ℕ) (commands : List (Command ℕ)) (command : Command ℕ) → text_of_lines (map command_reply_line (replies_of contents (commands ++ command ∷ []))) ≡ text_of_lines (map command_reply_line (replies_of contents commands)) ++ text_of_lines (command_reply_line (reply_of (contents_after contents commands) command) ∷ [])
+pub replies_text-more : (contents : Contents ℕ) (commands : List (Command ℕ)) (command : Command ℕ)
+    → text_of_lines (map command_reply_line (replies_of contents (commands ++ command ∷ []))) ≡ text_of_lines
+    (map command_reply_line (replies_of contents commands)) ++ text_of_lines
+    (command_reply_line (reply_of (contents_after contents commands) command) ∷ [])
 replies_text-more contents commands command =
     let reply = reply_of (contents_after contents commands) command in
     ap (λ replies. text_of_lines (map command_reply_line replies)) (replies_of-more contents commands command)

@@ -3,13 +3,18 @@
 
 mod device;
 mod item;
+mod line;
 mod memory_device;
 mod parse;
 mod program;
 mod reply;
+mod run_error;
 mod runner;
 
 pub use device::{Failed, Sink, Source};
+pub use item::{Item, Script};
 pub use memory_device::{MemSink, MemSource, PlainSource};
+pub use parse::parse;
 pub use program::{Status, top};
-pub use runner::{RunError, run};
+pub use run_error::RunError;
+pub use runner::run;

@@ -16,26 +16,6 @@ use std::alloc::Global;
 use wic_base::OutOfMemory;
 use wic_vec::{TryString, TryVec};
 
-/// Why a script was not run to its end. Own.
-#[derive(Clone, Copy, Debug, PartialEq, Eq)]
-pub enum RunError {
-    /// The input is no script: the line of the fault, counted from 1.
-    Syntax { line: u64 },
-    /// There was no memory to read the script or to make its replies.
-    Oom,
-}
-
-impl From<OutOfMemory> for RunError {
-    ghost use Rattle.std.specs.Prelude.{◌≡◌};
-    ghost use Rattle.batch_script.specs.declared.runner.RunError.TheVariants.{Oom};
-
-    ghost from_gives = { λ _ error. error ≡ Oom };
-
-    fn from(_: OutOfMemory) -> RunError {
-        RunError::Oom
-    }
-}
-
 /// Reads the whole input as a script and runs its items from an empty list: the text of their replies. Own.
 ///
 /// `Syntax` says that the input is no script and where its fault is; nothing was run then. `Oom` says that there

@@ -18,4 +18,6 @@ loop-command-preserved c = λ contents.
     c.in_ok-push_command_reply.ensures.ok (contents_after contents front)
     ∙ (ap (λ bytes. bytes ++ line) (c.loop-command.invariant contents)
     ∙ (append_assoc c.args.text.now.bytes written line
-    ∙ ap (λ bytes. c.args.text.now.bytes ++ bytes) (sym (ap (λ cs. text_of_lines (map command_reply_line (replies_of contents cs))) (take_more commands i (Push 0) c.loop-command-test.true) ∙ replies_text-more contents front command))))
+    ∙ ap (λ bytes. c.args.text.now.bytes ++ bytes)
+        (sym (ap (λ cs. text_of_lines (map command_reply_line (replies_of contents cs)))
+        (take_more commands i (Push 0) c.loop-command-test.true) ∙ replies_text-more contents front command))))

@@ -8,4 +8,5 @@ use Rattle.batch_script.proofs.Runs.{RunTo}
 use Rattle.batch_script.proofs.runner.run_items.Given as goal
 
 abbrev pub invariant-loop-item : goal.invariant-loop-item
-invariant-loop-item l = (replies : List Reply) × RunTo empty_state (plain_items (take l.item-index l.items)) replies (state_of l.list.items) × (l.text.bytes ≡ text_of replies)
+invariant-loop-item l = (replies : List Reply) × RunTo empty_state (plain_items (take l.item-index l.items)) replies
+    (state_of l.list.items) × (l.text.bytes ≡ text_of replies)
