@@ -44,6 +44,10 @@ module _ {F X : Type 0} where
   appends_answers call f n was old new same said long =
       let new_is = said.2 ∙ ap (λ l. take n l ++ said.0) same in
       let as_many : length said.0 ≡ n - length old =
-      omega (arith, long, ap length new_is, length-append (take n old) said.0, length-take n old) in
-      (said.0, said.1, subst (λ count. ClosureRun (λ f _ x next. call f x next) f (replicate count (tt {0})) said.0 said.1) as_many
-      (run_of_answers call f said.1 said.0 said.3), new_is)
+      omega (arith, long, ap length new_is, length-append (take n old) said.0, length-take n old) in (
+        said.0,
+        said.1,
+        subst (λ count. ClosureRun (λ f _ x next. call f x next) f (replicate count (tt {0})) said.0 said.1) as_many
+            (run_of_answers call f said.1 said.0 said.3),
+        new_is,
+      )
