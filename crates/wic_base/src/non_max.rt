@@ -1,5 +1,5 @@
 //! Numbers that are never the greatest of their type.
-ghost use Rattle.std.specs.Prelude.{⊤, ◌≡◌, ◌≢◌, ◌↔◌, IsTrue, IsSome, IfSome};
+ghost use Rattle.std.specs.Prelude.{⊤, ◌≡◌, ◌≢◌, ◌↔◌, ℕ, List, codes, IsTrue, IsSome, IfSome};
 
 use std::alloc::AllocError;
 use std::fmt;
@@ -13,6 +13,9 @@ pub trait NonMaxNumber: Copy {
     /// The greatest number of the type.
     ghost greatest: { Self };
 
+    /// The name of the non-max numbers of this type.
+    ghost name: { List ℕ };
+
     /// The number 0, which isn't the greatest one.
     fn zero() -> Self
         ensures zero { result ≡ zero }
@@ -23,13 +26,16 @@ pub trait NonMaxNumber: Copy {
         ensures greatest { IsTrue result ↔ (self ≡ greatest) };
 
     /// What the non-max numbers of this type are called in their debug text.
-    fn type_name() -> &'static str;
+    fn type_name() -> &'static str
+        ensures { result.now ≡ name };
 }
 
 impl NonMaxNumber for u8 {
     ghost zero = { 0 };
 
     ghost greatest = { 255 };
+
+    ghost name = { codes "NonMaxU8" };
 
     fn zero() -> u8 {
         0
@@ -49,6 +55,8 @@ impl NonMaxNumber for u16 {
 
     ghost greatest = { 65535 };
 
+    ghost name = { codes "NonMaxU16" };
+
     fn zero() -> u16 {
         0
     }
@@ -66,6 +74,8 @@ impl NonMaxNumber for u32 {
     ghost zero = { 0 };
 
     ghost greatest = { 4294967295 };
+
+    ghost name = { codes "NonMaxU32" };
 
     fn zero() -> u32 {
         0
@@ -85,6 +95,8 @@ impl NonMaxNumber for u64 {
 
     ghost greatest = { 18446744073709551615 };
 
+    ghost name = { codes "NonMaxU64" };
+
     fn zero() -> u64 {
         0
     }
@@ -102,6 +114,8 @@ impl NonMaxNumber for usize {
     ghost zero = { 0 };
 
     ghost greatest = { 18446744073709551615 };
+
+    ghost name = { codes "NonMaxUsize" };
 
     fn zero() -> usize {
         0

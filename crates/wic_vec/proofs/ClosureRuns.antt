@@ -1,5 +1,5 @@
 -- The run of a closure, from what std says of the calls.
-use Rattle.std.proofs.Common.{◌≡◌, ◌-◌, ℕ, arith, Bool, true, false, List, [], ◌∷◌, ◌++◌, length, length-append, length-take, take, replicate, refl, ap, subst, ◌∙◌, Result, Ok, OnOk}
+use Rattle.std.proofs.Common.{◌≡◌, ◌-◌, ℕ, arith, Bool, true, false, List, [], ◌∷◌, ◌++◌, length, length-append, length-take, take, replicate, refl, ap, subst, ◌∙◌, filter, Result, Ok, OnOk}
 use Rattle.std.specs.List.{items_where_true, FoldsTo, AppendsResults}
 use Rattle.std.specs.List.Retain.{ReturnsInTurn, IsFiltered, RetainsInTurn}
 use Rattle.wic_vec.specs.ClosureRun.{ClosureRun, answers_and_leaves, left_where_true, Retains, RetainsMut, AppendsAnswers}
@@ -51,3 +51,21 @@ module _ {F X : Type 0} where
             (run_of_answers call f said.1 said.0 said.3),
         new_is,
       )
+
+-- a test that answers by the element alone, and stays as it is, keeps what a list's `filter` does
+pub filter_from_retains : {F X : Type 0} (call : F → X → Bool → F → Type 0) (test : X → Bool) (f : F)
+    → ((x : X) (b : Bool) (next : F) → call f x b next → (b ≡ test x) × (next ≡ f)) → (xs ys : List X)
+    → Retains call f xs ys → ys ≡ filter test xs
+filter_from_retains {F} {X} call test f told xs ys kept = kept.3 ∙ those kept.0 kept.1 xs kept.2 where
+  those : (bs : List Bool) (last : F) (xs : List X) → ClosureRun call f xs bs last → items_where_true bs xs ≡ filter test xs
+  those [] last [] said = refl
+  those [] last (x ∷ xs) said = absurd said
+  those (b ∷ bs) last [] said = absurd said
+  those (true ∷ bs) last (x ∷ xs) said =
+      let here = told x true said.0 said.1 in
+      let later = those bs last xs (subst (λ g. ClosureRun call g xs bs last) here.1 said.2) in
+      rw (← here.0) (ap (λ l. x ∷ l) later)
+  those (false ∷ bs) last (x ∷ xs) said =
+      let here = told x false said.0 said.1 in
+      let later = those bs last xs (subst (λ g. ClosureRun call g xs bs last) here.1 said.2) in
+      rw (← here.0) later

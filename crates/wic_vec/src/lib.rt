@@ -2,6 +2,8 @@
 #![tactic(auto)]
 
 mod boxes;
+#[cfg(test)]
+mod callers;
 mod string;
 mod try_clone;
 mod vec;

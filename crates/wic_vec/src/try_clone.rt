@@ -82,3 +82,6 @@ impl TryClone for TryString {
         TryString::try_from_str(alloc, self.as_str())
     }
 }
+
+#[cfg(test)]
+mod tests;
