@@ -1,4 +1,8 @@
-//! What the other crates of this port stand on: want of memory as a value, and small numbers.
+//! What the other crates of this port stand on: want of memory as a value, and numbers with a spare one.
+//!
+//! `OutOfMemory` says how much was wanted. It takes no memory itself, is `Copy`, and is merged with no other refusal.
+//! `NonMaxU8` to `NonMaxUsize` hold every number of their type but the greatest: `new` is the test. `truncate_i32_to_i16`
+//! and `truncate_i32_to_i8` say by their name that high bits are meant to go. All of them cost a few instructions.
 #![tactic(auto)]
 
 mod non_max;

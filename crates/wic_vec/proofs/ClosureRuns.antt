@@ -1,8 +1,9 @@
 -- The run of a closure, from what std says of the calls.
-use Rattle.std.proofs.Common.{◌≡◌, ◌-◌, ℕ, arith, Bool, true, false, List, [], ◌∷◌, ◌++◌, length, length-append, length-take, take, replicate, refl, ap, subst, ◌∙◌, filter, Result, Ok, OnOk}
+use Rattle.std.proofs.Common.{◌≡◌, ◌-◌, ℕ, arith, Bool, true, false, List, [], ◌∷◌, ◌++◌, length}
+use Rattle.std.proofs.Common.{length-append, length-take, take, replicate, refl, ap, subst, ◌∙◌, filter, Result, Ok, OnOk}
 use Rattle.std.specs.List.{items_where_true, FoldsTo, AppendsResults}
 use Rattle.std.specs.List.Retain.{ReturnsInTurn, IsFiltered, RetainsInTurn}
-use Rattle.wic_vec.specs.ClosureRun.{ClosureRun, answers_and_leaves, left_where_true, Retains, RetainsMut, AppendsAnswers}
+use Rattle.wic_vec.specs.ClosureRun.{ClosureRun, Retains, RetainsMut, AppendsAnswers}
 
 -- what is said of an Ok, of a result that is one
 pub given_ok : {V E P : Type 0} → (r : Result V E) (v : V) → r ≡ Ok v → OnOk r P → P

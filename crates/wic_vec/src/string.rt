@@ -1,5 +1,6 @@
 //! A text whose growth can be refused.
-ghost use Rattle.std.specs.Prelude.{◌≡◌, ◌+◌, ◌<◌, ◌≤◌, ◌==◌, [], ◌++◌, length, encode_utf8, string_bytes, string_capacity, IsOk, IfOk, OnOk, OnErr};
+ghost use Rattle.std.specs.Prelude.{◌≡◌, ◌+◌, ◌<◌, ◌≤◌, ◌==◌, [], ◌++◌, length};
+ghost use Rattle.std.specs.Prelude.{encode_utf8, string_bytes, string_capacity, IsOk, IfOk, OnOk, OnErr};
 ghost use Rattle.wic_vec.specs.TryString.{HasRoomFor};
 
 mod compare;

@@ -89,7 +89,8 @@ impl<T: Drop> TryVec<T> {
     /// A port of `TryVec::resize_with`.
     pub fn resize_with<F: FnMut() -> T>(&mut self, new_len: usize, f: F) -> Result<(), OutOfMemory>
         requires { F.IsAlwaysCallable f }
-        ensures items { OnOk result (AppendsAnswers F.step f (new_len - length self.old.items) (take new_len self.old.items) self.new.items) }
+        ensures items { OnOk result (AppendsAnswers F.step f (new_len - length self.old.items)
+            (take new_len self.old.items) self.new.items) }
         ensures never_refused_within { new_len ≤ self.old.capacity → IsOk result }
         ensures refused_only_beyond { OnErr result (self.old.capacity < new_len) }
         ensures capacity_kept_within { new_len ≤ self.old.capacity → self.new.capacity ≡ self.old.capacity }

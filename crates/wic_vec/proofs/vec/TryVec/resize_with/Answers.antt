@@ -6,5 +6,6 @@ pub returns-clause-items : goal.returns-clause-items
 returns-clause-items g c =
     let same = ap (λ v. v.items) c.self.view_is ∙ c.reserve.ensures.same_items in
     let said = given_ok _ _ c.unwrap.ensures c.resize_with.ensures.items in
-    let long : length c.resize_with.new.self.items ≡ c.args.new_len = search (rules, given_ok _ _ c.unwrap.ensures c.resize_with.ensures.len) in
+    let long : length c.resize_with.new.self.items ≡ c.args.new_len =
+    search (rules, given_ok _ _ c.unwrap.ensures c.resize_with.ensures.len) in
     appends_answers _ _ _ _ _ _ same said long
