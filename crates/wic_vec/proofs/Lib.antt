@@ -1,2 +1,4 @@
+pub mod ClosureRuns
+pub mod Copies
 pub mod DrainRuns
 pub mod Moved
