@@ -10,7 +10,8 @@ lines-other : (x : ℕ) (xs : List ℕ) → x ≢ 10 → lines_of (x ∷ xs) ≡
 lines-other x xs ne = grind (arith, nat_tests)
 
 -- the first line ends at the first line feed
-pub lines-at_line_feed : (i : ℕ) (xs : List ℕ) → i < length xs → get_or xs i 0 ≡ 10 → ((k : ℕ) → k < i → get_or xs k 0 ≢ 10) → lines_of xs ≡ take i xs ∷ lines_of (drop (i + 1) xs)
+pub lines-at_line_feed : (i : ℕ) (xs : List ℕ) → i < length xs → get_or xs i 0 ≡ 10 → ((k : ℕ) → k < i → get_or xs k 0 ≢ 10)
+    → lines_of xs ≡ take i xs ∷ lines_of (drop (i + 1) xs)
 lines-at_line_feed i [] short found before = absurd (omega arith)
 lines-at_line_feed zero (x ∷ xs) short found before = lines-line_feed x xs found
 lines-at_line_feed (suc i) (x ∷ xs) short found before =

@@ -14,7 +14,8 @@ abbrev pub input_limit : ℕ
 input_limit = 67108864
 
 -- What the headline supposes of a call, of the input and of the items.
-pub record Premises (words : List TryString) (left written : Option (List ℕ)) (source_before source_after sink_before sink_after : ℕ) (input held : List ℕ) (items : List Item) : Type 0 where
+pub record Premises (words : List TryString) (left written : Option (List ℕ)) (source_before source_after sink_before sink_after : ℕ)
+    (input held : List ℕ) (items : List Item) : Type 0 where
   -- no words are given
   pub no_words : words ≡ []
   -- the source tells its bytes, which are the input

@@ -1,12 +1,17 @@
 -- What the parser has read so far, as plain items and lines.
-use Rattle.std.specs.Prelude.{⊤, ◌≡◌, ℕ, ◌≤◌, Bool, true, false, nat_eq, List, [], ◌∷◌, ◌++◌, length, map, codes, Option, Some, None}
-use Rattle.std.specs.List.{AllByRecursion, list_any}
+use Rattle.std.specs.Prelude.{⊤, ◌≡◌, ◌≢◌, ℕ, slice_index, ◌<◌, ◌≤◌, Bool, true, false, nat_eq, List, [], ◌∷◌, ◌++◌, length, map, codes}
+use Rattle.std.specs.Prelude.{Option, Some, None}
+use Rattle.std.specs.List.{AllByRecursion, list_any, join_with_byte}
+use Rattle.std.specs.Fmt.{decimal}
 use Rattle.batch_core.specs.declared.command.Command.{Command}
+use Rattle.batch_core.specs.declared.command.End.TheVariants.{Commit}
 use Rattle.batch_script.specs.declared.item.Item.{Item as SourceItem}
 use Rattle.batch_script.specs.declared.item.Item.TheVariants.{Reserve, Show, Batch}
 use Rattle.batch_script.specs.declared.line.Numbers.{Numbers}
 use Rattle.batch_script.specs.declared.line.Numbers.TheVariants.{Zero, One, Two}
 use Rattle.batch_script.specs.declared.parse.Reading.{Reading}
+use Rattle.batch_script.specs.declared.parse.Start.{Start}
+use Rattle.batch_script.specs.declared.parse.Start.TheVariants.{Reserve as StartsReserve, Show as StartsShow, Begin as StartsBatch}
 use Rattle.batch_script.specs.Machine.{Item, reserve, show, batch}
 use Rattle.batch_script.specs.Grammar.{Line, IsWritable, IsValidItem, IsValidCommand, all_lines, command_line, line_of}
 
@@ -30,6 +35,17 @@ listed Zero = []
 listed (One first) = first ∷ []
 listed (Two first second) = first ∷ second ∷ []
 
+-- there is a digit, and no zero before others
+pub record BeginsNumber (digits : List ℕ) : Type 0 where
+  pub some : 0 < length digits
+  pub leading : 1 < length digits → slice_index digits 0 ≢ 48
+
+-- the text is these numbers, of which there is one at least, with one space between them
+pub record AreNumbers (text numbers : List ℕ) : Type 0 where
+  pub some : 0 < length numbers
+  pub writable : AllByRecursion IsWritable numbers
+  pub same : text ≡ join_with_byte 32 (map decimal numbers)
+
 -- the line is this word and these numbers
 pub record HasParts (line word numbers : List ℕ) : Type 0 where
   pub is_word : has_space word ≡ false
@@ -39,6 +55,18 @@ pub record HasParts (line word numbers : List ℕ) : Type 0 where
 -- the line is no word with up to two numbers
 abbrev pub HasNoParts : Line → Type 0
 HasNoParts line = (word numbers : List ℕ) → length numbers ≤ 2 → ¬ HasParts line word numbers
+
+-- the word of the first line of an item
+abbrev pub first_word : Item → List ℕ
+first_word (reserve number) = codes "reserve"
+first_word show = codes "show"
+first_word (batch commands ending) = codes "begin"
+
+-- the numbers of that line
+abbrev pub first_numbers : Item → List ℕ
+first_numbers (reserve number) = number ∷ []
+first_numbers show = []
+first_numbers (batch commands ending) = []
 
 -- the lines of a batch that has begun and not ended, if there is one
 abbrev pub open_lines : Option (List (Command ℕ)) → List Line
@@ -61,6 +89,20 @@ abbrev pub begun_of : Bool → List (Command ℕ) → Option (List (Command ℕ)
 begun_of true commands = Some commands
 begun_of false commands = None
 
+-- an item that begins so
+abbrev pub started : Start → Item
+started (StartsReserve number) = reserve number
+started StartsShow = show
+started StartsBatch = batch [] Commit
+
 -- the reading has taken these lines
 abbrev pub HasRead : Reading → List Line → Type 0
 HasRead reading lines = AreRead (plain_items reading.items.items) (begun_of reading.has_begun reading.commands.items) lines
+
+-- so it has, and no batch has begun
+abbrev pub IsOutside : Reading → List Line → Type 0
+IsOutside reading lines = (reading.has_begun ≡ false) × AreRead (plain_items reading.items.items) None lines
+
+-- so it has, and a batch has begun
+abbrev pub IsInside : Reading → List Line → Type 0
+IsInside reading lines = (reading.has_begun ≡ true) × AreRead (plain_items reading.items.items) (Some reading.commands.items) lines

@@ -16,6 +16,7 @@ pub use device::{Failed, Sink, Source};
 pub use item::{Item, Script};
 pub use kind::BatchKind;
 pub use memory_device::{MemSink, MemSource, PlainSource};
+pub use parse::parse;
 pub use program::{Status, top};
 pub use run_error::RunError;
 pub use runner::run;

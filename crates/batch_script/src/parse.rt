@@ -1,17 +1,18 @@
-//! Reads a script: its lines, numbers, commands and items.
-ghost use Rattle.std.specs.Prelude.{◌≡◌, ◌≢◌, ◌+◌, ◌^◌, ◌<◌, ◌≤◌, ◌∷◌, ◌++◌, ℕ, List, [], length, IfSome, IfNone, IfOk, IfErr, OnOk, OnErr, MatchOption, Some, None, EachIndex, slice_index, IsTrue, ◌↔◌};
-ghost use Rattle.std.specs.Fmt.{decimal};
+//! Reads a script: its lines one after the other, as commands and items.
+ghost use Rattle.std.specs.Prelude.{◌≡◌, ◌≢◌, ◌<◌, ◌∷◌, ◌++◌, ℕ, List, [], length, IfSome, IfNone, IfOk, IfErr, OnOk, MatchOption, Err};
 ghost use Rattle.batch_core.specs.declared.command.Command.{Command};
 ghost use Rattle.batch_core.specs.declared.command.End.{End};
-ghost use Rattle.batch_script.specs.Grammar.{Line, IsOpen, IsScriptOf, IsValidCommand, command_line, end_line, lines_of};
-ghost use Rattle.batch_script.specs.Reading.{AreRead, IsPlain, plain_items};
+ghost use Rattle.batch_script.specs.Machine.{Item as PlainItem};
+ghost use Rattle.batch_script.specs.Grammar.{Line, IsOpen, IsScriptOf, word_of, numbers_of, end_line, lines_of};
+ghost use Rattle.batch_script.specs.Reading.{HasParts, first_word, first_numbers, listed, plain_items, started};
 ghost use Rattle.batch_script.specs.Refusal.{IsJustified};
 
 use crate::item::{Item, Script};
-use crate::runner::RunError;
+use crate::line::{Numbers, place_of, read_parts};
+use crate::run_error::RunError;
 use batch_core::{Batch, Command, End};
 use std::alloc::Global;
-use std::str;
+use std::mem;
 use wic_base::OutOfMemory;
 use wic_vec::TryVec;
 
@@ -24,60 +25,78 @@ fn next_line(input: &[u8]) -> Option<(&[u8], &[u8])>
     if input.is_empty() {
         return None;
     }
-    match line_feed(input) {
+    match place_of(b'\n', input) {
         Some(end) => Some((&input[..end], &input[end + 1..])),
         None => Some((input, &[])),
     }
 }
 
-/// The place of the first line feed.
-fn line_feed(input: &[u8]) -> Option<usize>
-    ensures first { MatchOption result (EachIndex input.now (λ k. slice_index input.now k ≢ 10))
-        (λ end. (end < length input.now) × (slice_index input.now end ≡ 10) × ((k : ℕ) → k < end → slice_index input.now k ≢ 10)) }
+/// The command of this word and these numbers.
+fn command_of(word: &[u8], numbers: Numbers) -> Option<Command<u64>>
+    ensures some { IfSome result (λ command. (word.now ≡ word_of command) × (listed numbers ≡ numbers_of command)) }
+    ensures none { IfNone result ((command : Command ℕ) → numbers_of command ≡ listed numbers → word_of command ≢ word.now) }
 {
-    input.iter().position(|byte| *byte == b'\n')
-}
-
-/// The number that these digits write, with no sign and no leading zero.
-fn read_number(digits: &[u8]) -> Option<u64>
-    ensures some { IfSome result (λ number. (number < 2 ^ 64) × (digits.now ≡ decimal number)) }
-    ensures none { IfNone result ((number : ℕ) → number < 2 ^ 64 → digits.now ≢ decimal number) }
-{
-    if !is_plain(digits) {
-        return None;
+    match numbers {
+        Numbers::Zero => match word {
+            b"pop" => Some(Command::Pop),
+            _ => None,
+        },
+        Numbers::One(number) => match word {
+            b"push" => Some(Command::Push(number)),
+            b"alloc" => Some(Command::Alloc(number)),
+            b"free" => Some(Command::Free(number)),
+            b"insert" => Some(Command::Insert(number)),
+            b"remove" => Some(Command::Remove(number)),
+            b"truncate" => Some(Command::Truncate(number)),
+            _ => None,
+        },
+        Numbers::Two(number, value) => match word {
+            b"set" => Some(Command::Set(number, value)),
+            b"put" => Some(Command::Put(number, value)),
+            _ => None,
+        },
     }
-    match str::from_utf8(digits) {
-        Ok(text) => text.parse().ok(),
-        Err(_) => None,
-    }
 }
 
-/// Whether these are digits alone, with no leading zero before others.
-fn is_plain(digits: &[u8]) -> bool
-    ensures { IsTrue result ↔ IsPlain digits.now }
+/// The end of a batch that is this word, with no numbers.
+fn end_of(word: &[u8], numbers: Numbers) -> Option<End>
+    ensures some { IfSome result (λ ending. (word.now ≡ end_line ending) × (listed numbers ≡ [])) }
+    ensures none { IfNone result ((ending : End) → listed numbers ≡ [] → end_line ending ≢ word.now) }
 {
-    let leading_zero = digits.len() > 1 && digits[0] == b'0';
-    !leading_zero && digits.iter().all(|byte| byte.is_ascii_digit())
-}
-
-/// The command that this line writes.
-fn read_command(line: &[u8]) -> Option<Command<u64>>
-    ensures some { IfSome result (λ command. IsValidCommand command × (line.now ≡ command_line command)) }
-    ensures none { IfNone result ((command : Command ℕ) → IsValidCommand command → line.now ≢ command_line command) }
-{
-    let number = line.strip_prefix(b"push ")?;
-    Some(Command::Push(read_number(number)?))
-}
-
-/// The end of a batch that this line writes.
-fn read_end(line: &[u8]) -> Option<End>
-    ensures some { IfSome result (λ ending. line.now ≡ end_line ending) }
-    ensures none { IfNone result ((ending : End) → line.now ≢ end_line ending) }
-{
-    match line {
-        b"commit" => Some(End::Commit),
-        b"abort" => Some(End::Abort),
+    match numbers {
+        Numbers::Zero => match word {
+            b"commit" => Some(End::Commit),
+            b"abort" => Some(End::Abort),
+            _ => None,
+        },
         _ => None,
+    }
+}
+
+/// What a line outside a batch starts.
+#[derive(Drop)]
+pub(crate) enum Start {
+    Reserve(u64),
+    Show,
+    Begin,
+}
+
+/// What this word and these numbers start outside a batch.
+fn start_of(word: &[u8], numbers: Numbers) -> Option<Start>
+    ensures some { IfSome result (λ start. (word.now ≡ first_word (started start)) × (listed numbers ≡ first_numbers (started start))) }
+    ensures none { IfNone result ((item : PlainItem) → first_numbers item ≡ listed numbers → first_word item ≢ word.now) }
+{
+    match numbers {
+        Numbers::Zero => match word {
+            b"begin" => Some(Start::Begin),
+            b"show" => Some(Start::Show),
+            _ => None,
+        },
+        Numbers::One(number) => match word {
+            b"reserve" => Some(Start::Reserve(number)),
+            _ => None,
+        },
+        Numbers::Two(_, _) => None,
     }
 }
 
@@ -101,82 +120,99 @@ impl From<OutOfMemory> for LineRefusal {
 
 /// The items that were read, and the commands of a batch that has begun and not ended.
 #[derive(Drop)]
-struct Reading {
+pub(crate) struct Reading {
     items: TryVec<Item>,
-    begun: Option<TryVec<Command<u64>>>,
+    commands: TryVec<Command<u64>>,
+    has_begun: bool,
 }
 
 impl Reading {
-    ghost use Rattle.batch_script.specs.Reading.{HasRead};
+    ghost use Rattle.batch_script.specs.Reading.{HasRead, IsOutside, IsInside};
 
     fn new(alloc: Global) -> Reading
         ensures { HasRead result [] }
     {
         Reading {
             items: TryVec::new(alloc),
-            begun: None,
+            commands: TryVec::new(alloc),
+            has_begun: false,
         }
     }
 
     /// Goes on by one line.
     fn take_line(&mut self, alloc: Global, line: &[u8]) -> Result<(), LineRefusal>
         ensures ok { OnOk result ((lines : List Line) → HasRead self.old lines → HasRead self.new (lines ++ line.now ∷ [])) }
-        ensures syntax { result ≡ Err LineRefusal.Syntax → (lines : List Line) → HasRead self.old lines → ¬ IsOpen (lines ++ line.now ∷ []) }
+        ensures syntax { result ≡ Err LineRefusal.Syntax → (lines : List Line) → HasRead self.old lines
+            → ¬ IsOpen (lines ++ line.now ∷ []) }
     {
-        match self.begun.take() {
-            Some(commands) => self.take_in_batch(commands, line),
-            None => self.take_outside(alloc, line),
+        match read_parts(line) {
+            None => Err(LineRefusal::Syntax),
+            Some((word, numbers)) => {
+                if self.has_begun {
+                    self.take_in_batch(alloc, word, numbers)
+                } else {
+                    self.take_outside(alloc, word, numbers)
+                }
+            }
         }
     }
 
-    /// Goes on by one line where no batch has begun.
-    fn take_outside(&mut self, alloc: Global, line: &[u8]) -> Result<(), LineRefusal>
-        ensures ok { OnOk result ((lines : List Line) → AreRead (plain_items self.old.items.items) None lines → HasRead self.new (lines ++ line.now ∷ [])) }
-        ensures syntax { result ≡ Err LineRefusal.Syntax → (lines : List Line) → AreRead (plain_items self.old.items.items) None lines → ¬ IsOpen (lines ++ line.now ∷ []) }
+    /// Goes on by this word and these numbers where no batch has begun.
+    fn take_outside(
+        &mut self,
+        alloc: Global,
+        word: &[u8],
+        numbers: Numbers,
+    ) -> Result<(), LineRefusal>
+        ensures ok { OnOk result ((lines : List Line) (line : Line) → HasParts line word.now (listed numbers) → IsOutside self.old lines
+            → HasRead self.new (lines ++ line ∷ [])) }
+        ensures syntax { result ≡ Err LineRefusal.Syntax → (lines : List Line) (line : Line) → HasParts line word.now (listed numbers)
+            → IsOutside self.old lines → ¬ IsOpen (lines ++ line ∷ []) }
     {
-        if line != b"begin".as_slice() {
-            return Err(LineRefusal::Syntax);
+        match start_of(word, numbers) {
+            Some(Start::Reserve(number)) => self.items.push(Item::Reserve(number))?,
+            Some(Start::Show) => self.items.push(Item::Show)?,
+            Some(Start::Begin) => {
+                self.commands = TryVec::new(alloc);
+                self.has_begun = true;
+            }
+            None => return Err(LineRefusal::Syntax),
         }
-        self.begun = Some(TryVec::new(alloc));
         Ok(())
     }
 
-    /// Goes on by one line in a batch that has these commands so far.
+    /// Goes on by this word and these numbers in a batch that has begun.
     fn take_in_batch(
         &mut self,
-        mut commands: TryVec<Command<u64>>,
-        line: &[u8],
+        alloc: Global,
+        word: &[u8],
+        numbers: Numbers,
     ) -> Result<(), LineRefusal>
-        requires { self.old.begun ≡ None }
-        ensures ok { OnOk result ((lines : List Line) → AreRead (plain_items self.old.items.items) (Some commands.items) lines → HasRead self.new (lines ++ line.now ∷ [])) }
-        ensures syntax { result ≡ Err LineRefusal.Syntax → (lines : List Line) → AreRead (plain_items self.old.items.items) (Some commands.items) lines → ¬ IsOpen (lines ++ line.now ∷ []) }
+        ensures ok { OnOk result ((lines : List Line) (line : Line) → HasParts line word.now (listed numbers) → IsInside self.old lines
+            → HasRead self.new (lines ++ line ∷ [])) }
+        ensures syntax { result ≡ Err LineRefusal.Syntax → (lines : List Line) (line : Line) → HasParts line word.now (listed numbers)
+            → IsInside self.old lines → ¬ IsOpen (lines ++ line ∷ []) }
     {
-        match read_command(line) {
-            Some(command) => {
-                commands.push(command)?;
-                self.begun = Some(commands);
-                Ok(())
-            }
-            None => self.take_end(commands, line),
+        if let Some(command) = command_of(word, numbers) {
+            self.commands.push(command)?;
+            return Ok(());
         }
-    }
-
-    /// Goes on by the line that ends a batch of these commands.
-    fn take_end(&mut self, commands: TryVec<Command<u64>>, line: &[u8]) -> Result<(), LineRefusal>
-        requires nothing_begun { self.old.begun ≡ None }
-        requires no_command { (command : Command ℕ) → IsValidCommand command → line.now ≢ command_line command }
-        ensures ok { OnOk result ((lines : List Line) → AreRead (plain_items self.old.items.items) (Some commands.items) lines → HasRead self.new (lines ++ line.now ∷ [])) }
-        ensures syntax { result ≡ Err LineRefusal.Syntax → (lines : List Line) → AreRead (plain_items self.old.items.items) (Some commands.items) lines → ¬ IsOpen (lines ++ line.now ∷ []) }
-    {
-        match read_end(line) {
-            Some(end) => Ok(self.items.push(Item::Batch(Batch { commands, end }))?),
+        match end_of(word, numbers) {
+            Some(end) => {
+                let commands = mem::replace(&mut self.commands, TryVec::new(alloc));
+                self.has_begun = false;
+                Ok(self.items.push(Item::Batch(Batch { commands, end }))?)
+            }
             None => Err(LineRefusal::Syntax),
         }
     }
 }
 
-/// Reads a script whole.
-pub(crate) fn parse(alloc: Global, input: &[u8]) -> Result<Script, RunError>
+/// Reads a script whole: its items. Own.
+///
+/// `Syntax` comes exactly where the input is no script, at the line of its fault; nothing is lost but what was read. `Oom` says
+/// that there was no memory for the items.
+pub fn parse(alloc: Global, input: &[u8]) -> Result<Script, RunError>
     ensures script { IfOk result (λ script. IsScriptOf input.now (plain_items script.items.items)) }
     ensures refusal { IfErr result (IsJustified input.now) }
 {
@@ -192,12 +228,12 @@ pub(crate) fn parse(alloc: Global, input: &[u8]) -> Result<Script, RunError>
         }
         rest = later;
     }
-    match reading.begun {
-        None => Ok(Script {
-            items: reading.items,
-        }),
-        Some(_) => Err(RunError::Syntax {
+    if reading.has_begun {
+        return Err(RunError::Syntax {
             line: line_number + 1,
-        }),
+        });
     }
+    Ok(Script {
+        items: reading.items,
+    })
 }

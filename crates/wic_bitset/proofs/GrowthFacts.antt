@@ -6,7 +6,7 @@ use Rattle.std.proofs.lemmas.Bool.{cases_eq, cases_lt}
 use Rattle.std.proofs.lemmas.Bool.Decides.{nat_tests}
 use Rattle.std.proofs.Math.Nat.{pow-suc, mul-le-mul_right, mul_assoc, mul_comm, mod-add-div, suc-mul}
 use Rattle.std.proofs.lemmas.Nat.{mod_below, div_below}
-use Rattle.wic_bitset.specs.Growth.{count_after, count_for, summary_count, count_after_all, growths, highest, sum_before}
+use Rattle.wic_bitset.specs.Growth.{count_after, count_for, count_after_all, growths, highest, sum_before}
 
 is_below : (w c : ℕ) → w < c → nat_lt w c ≡ true
 is_below w c h = grind (arith, nat_tests)
@@ -121,7 +121,3 @@ module _ (w v c : ℕ) (is : v ≡ w) (some : 0 < w) where
   -- the numbers below n are asked for by the word of the last of them
   pub asked_below : (n : ℕ) → 0 < n → count_after c ((n - 1) / v) ≡ count_for w c n
   asked_below n asks = let t = is_below 0 n asks in rw t (ap (λ v. count_after c ((n - 1) / v)) is)
-
--- no words need no summary
-pub summary_count-none : (w : ℕ) → 0 < w → summary_count w 0 ≡ 0
-summary_count-none w some = omega arith

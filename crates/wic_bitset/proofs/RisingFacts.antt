@@ -1,7 +1,7 @@
--- The rising list is any list of the members up to a place that is above them all.
-use Rattle.std.proofs.Common.{⊎_elim, ◌≡◌, ℕ, ◌+◌, ◌-◌, ◌<◌, ◌≤◌, Bool, true, List, [], ◌∷◌, ◌++◌, length, sym, ap, ◌∙◌, arith, max}
+-- The rising list of the members is any list of them up to a place that is above them all.
+use Rattle.std.proofs.Common.{⊎_elim, ◌≡◌, ℕ, ◌+◌, ◌-◌, ◌<◌, ◌≤◌, Bool, true, List, [], ◌∷◌, ◌++◌, length, length-append, sym, ap, ◌∙◌, arith, max}
 use Rattle.std.proofs.Common.{append-nil, IsTrue, ◌↔◌}
-use Rattle.std.specs.Prelude.{nat_eq}
+use Rattle.std.specs.Prelude.{nat_eq, All}
 use Rattle.std.specs.List.{list_any}
 use Rattle.std.specs.List.Sorted.{IsStrictlyIncreasing}
 use Rattle.std.specs.Ordering.{nat_cmp, eq_by_cmp}
@@ -11,7 +11,7 @@ use Rattle.std.specs.FinSet.{FinSet, contains, items, from_list, len, contains-i
 use Rattle.std.proofs.lemmas.Bool.{cases_eq, false_from_ne_true}
 use Rattle.std.proofs.lemmas.Bool.Decides.{nat_tests}
 use Rattle.wic_bitset.specs.Rising.{members_between, rising, greatest_of}
-use Rattle.wic_bitset.proofs.ListFacts.{filter_none, members_between-split, from_list-members, rising-members}
+use Rattle.wic_bitset.proofs.BetweenFacts.{between-none, between-split, from_list-between, IsStrictlyIncreasing-between, All-between}
 use Rattle.wic_bitset.proofs.SetFacts.{count_in, at_most_in}
 
 le-greatest_of : (xs : List ℕ) (q : ℕ) → list_any (eq_by_cmp nat_cmp q) xs ≡ true → q ≤ greatest_of xs
@@ -23,45 +23,39 @@ le-greatest_of (x ∷ xs) q has =
     (λ apart. let rest : q ≤ greatest_of xs = le-greatest_of xs q (grind (arith, nat_tests)) in omega arith)
     (cases_eq q x)
 
--- no member is above the greatest
-pub below_end : (s : FinSet nat_cmp) (i : ℕ) → contains s i ≡ true → i < greatest_of (items s) + 1
-below_end s i has = let h : i ≤ greatest_of (items s) = le-greatest_of (items s) i (sym (contains-items s i) ∙ has) in omega arith
+-- no member is above the greatest item
+pub below_top : (s : FinSet nat_cmp) (i : ℕ) → contains s i ≡ true → i < greatest_of (items s) + 1
+below_top s i has = let h : i ≤ greatest_of (items s) = le-greatest_of (items s) i (sym (contains-items s i) ∙ has) in omega arith
 
 -- a longer range of numbers has no more members
-members_between-more : (s : FinSet nat_cmp) (end more : ℕ) → ((i : ℕ) → contains s i ≡ true → i < end)
-    → members_between s 0 (end + more) ≡ members_between s 0 end
-members_between-more s end more below =
-    let none : members_between s end (end + more) ≡ [] =
-    filter_none (contains s) end (end + more - end)
-    (λ i low high. false_from_ne_true (contains s i) (λ has. absurd (let h = below i has in omega arith))) in
-    members_between-split s end more ∙ ap (λ ys. members_between s 0 end ++ ys) none ∙ append-nil (members_between s 0 end)
+between-longer : (s : FinSet nat_cmp) (end longer : ℕ) → end ≤ longer → ((i : ℕ) → contains s i ≡ true → i < end)
+    → members_between s 0 longer ≡ members_between s 0 end
+between-longer s end longer le below =
+    let none : members_between s end longer ≡ [] = between-none s end longer
+    (λ i low _. false_from_ne_true (contains s i) (λ has. absurd (let h = below i has in omega arith))) in
+    between-split s 0 end longer (omega arith) le ∙ ap (λ ys. members_between s 0 end ++ ys) none ∙ append-nil (members_between s 0 end)
 
 -- the place above them all doesn't matter
-pub members_between-rising : (s : FinSet nat_cmp) (end : ℕ) → ((i : ℕ) → contains s i ≡ true → i < end)
-    → members_between s 0 end ≡ rising s
+pub between-rising : (s : FinSet nat_cmp) (end : ℕ) → ((i : ℕ) → contains s i ≡ true → i < end) → members_between s 0 end ≡ rising s
 unfolding rising
-members_between-rising s end below =
+between-rising s end below =
     let top = greatest_of (items s) + 1 in
-    let one : end + (max end top - end) ≡ top + (max end top - top) = omega arith in
-    sym (members_between-more s end (max end top - end) below)
-    ∙ ap (members_between s 0) one
-    ∙ members_between-more s top (max end top - top) (below_end s)
+    sym (between-longer s end (max end top) (omega arith) below) ∙ between-longer s top (max end top) (omega arith) (below_top s)
 
 -- the list has just the members
 pub from_list-rising : (s : FinSet nat_cmp) → from_list (rising s) ≡ s
 unfolding rising
-from_list-rising s = from_list-members s (greatest_of (items s) + 1) (below_end s)
+from_list-rising s = from_list-between s (greatest_of (items s) + 1) (below_top s)
 
 -- the list rises
 pub IsStrictlyIncreasing-rising : (s : FinSet nat_cmp) → IsStrictlyIncreasing (rising s)
 unfolding rising
-IsStrictlyIncreasing-rising s = rising-members s 0 (greatest_of (items s) + 1)
+IsStrictlyIncreasing-rising s = IsStrictlyIncreasing-between s 0 (greatest_of (items s) + 1)
 
 -- the list is as long as the set is large
 pub length-rising : (s : FinSet nat_cmp) → length (rising s) ≡ len s
 unfolding rising
-length-rising s = sym (count_in (contains s) 0 (greatest_of (items s) + 1 - 0))
-    ∙ ap len (from_list-members s (greatest_of (items s) + 1) (below_end s))
+length-rising s = sym (count_in (contains s) 0 (greatest_of (items s) + 1 - 0)) ∙ ap len (from_list-rising s)
 
 -- equal lists belong to equal sets
 pub same_set_from_rising : (s t : FinSet nat_cmp) (r : Bool) → r ≡ pointwise nat_eq (rising s) (rising t) → IsTrue r ↔ (s ≡ t)
@@ -73,5 +67,18 @@ same_set_from_rising s t r is = (
 -- there are no more members than numbers below a place that is above them all
 pub length-rising-le : (s : FinSet nat_cmp) (end : ℕ) → ((i : ℕ) → contains s i ≡ true → i < end) → length (rising s) ≤ end
 length-rising-le s end below =
-    let same = ap length (members_between-rising s end below) in
+    let same = ap length (between-rising s end below) in
     omega (arith, same, at_most_in (contains s) 0 (end - 0))
+
+-- no more members stand below a place than there are
+pub length-between-le : (s : FinSet nat_cmp) (n : ℕ) → length (members_between s 0 n) ≤ len s
+length-between-le s n =
+    let top = greatest_of (items s) + 1 in
+    let whole = ap length (between-rising s (max n top) (λ i has. let h = below_top s i has in omega arith)) in
+    let parts = ap length (between-split s 0 n (max n top) (omega arith) (omega arith)) in
+    omega (arith, whole, parts, length-rising s, length-append (members_between s 0 n) (members_between s n (max n top)))
+
+-- what is true of each member is true of each of the list
+pub All-rising : (P : ℕ → Type 0) (s : FinSet nat_cmp) → ((i : ℕ) → contains s i ≡ true → P i) → All P (rising s)
+unfolding rising
+All-rising P s each = All-between P s 0 (greatest_of (items s) + 1) each

@@ -1,10 +1,11 @@
--- Facts of scalar sets that a caller needs, from the lemmas of wic_scalar.
-use Rattle.std.proofs.Common.{⊎_elim, ◌≡◌, ℕ, zero, suc, ◌+◌, ◌<◌, ◌≤◌, Bool, true, false, length, sym, ap, ◌∙◌, arith}
+-- Finite sets of numbers: equal where they have the same members.
+use Rattle.std.proofs.Common.{⊎_elim, ◌≡◌, ◌≢◌, ℕ, zero, suc, ◌+◌, ◌<◌, ◌≤◌, Bool, true, false, not, ◌&&◌, length, sym, ap, ◌∙◌, arith}
+use Rattle.std.specs.Prelude.{nat_lt}
 use Rattle.std.specs.List.{filter, range_with_len}
 use Rattle.std.specs.Ordering.{nat_cmp}
 use Rattle.std.specs.Cmp.{nat_cmp_total, unsigned_tied}
 use Rattle.std.specs.FinSet.{FinSet, empty, contains, insert, remove, len, from_list, same_set, members, nat_cmp-IsAntisymmetric, contains-empty}
-use Rattle.std.specs.FinSet.{contains-insert, len-empty, len-insert}
+use Rattle.std.specs.FinSet.{contains-insert, contains-remove, len-empty, len-insert}
 use Rattle.std.proofs.lemmas.Bool.{cases_eq, cases_Bool}
 use Rattle.std.proofs.lemmas.Bool.Decides.{nat_tests}
 
@@ -44,6 +45,31 @@ insert-remove s i present = same_set nat_cmp_total nat_cmp-IsAntisymmetric _ _ (
     (λ apart. grind (members, unsigned_tied, arith, nat_tests))
     (cases_eq q i))
 
+-- ---- one number in or out
+
+-- a number just put in is there
+pub there_after_insert : (s : FinSet nat_cmp) (i : ℕ) → contains (insert s i) i ≡ true
+there_after_insert s i = let t = unsigned_tied i i in contains-insert nat_cmp_total s i i ∙ grind (arith, nat_tests)
+
+-- every other number is there as before
+pub same_after_insert : (s : FinSet nat_cmp) (i q : ℕ) → q ≢ i → contains (insert s i) q ≡ contains s q
+same_after_insert s i q apart = let t = unsigned_tied q i in contains-insert nat_cmp_total s i q ∙ grind (arith, nat_tests)
+
+-- a number just taken out isn't there
+pub gone_after_remove : (s : FinSet nat_cmp) (i : ℕ) → contains (remove s i) i ≡ false
+gone_after_remove s i = let t = unsigned_tied i i in contains-remove nat_cmp_total s i i ∙ grind (arith, nat_tests)
+
+-- every other number is there as before
+pub same_after_remove : (s : FinSet nat_cmp) (i q : ℕ) → q ≢ i → contains (remove s i) q ≡ contains s q
+same_after_remove s i q apart = let t = unsigned_tied q i in contains-remove nat_cmp_total s i q ∙ grind (arith, nat_tests)
+
+-- what is left was there
+pub was_before_remove : (s : FinSet nat_cmp) (i q : ℕ) → contains (remove s i) q ≡ true → contains s q ≡ true
+was_before_remove s i q has = ⊎_elim
+    (λ same. absurd (let gone : contains (remove s i) q ≡ false = ap (contains (remove s i)) same ∙ gone_after_remove s i in cc))
+    (λ apart. sym (same_after_remove s i q apart) ∙ has)
+    (cases_eq q i)
+
 -- ---- the set of a range, and the number of members
 
 early : (p : ℕ → Bool) (q a m : ℕ) → q < a → contains (from_list {R = nat_cmp} (filter p (range_with_len a m))) q ≡ false
@@ -54,6 +80,25 @@ early p q a (suc m) below = ⊎_elim
     (λ no. rw no (early p q (a + 1) m (omega arith)))
     (cases_Bool (p a))
 
+-- the set of a range that a test filters
+pub contains-filter_range : (p : ℕ → Bool) (a n q : ℕ)
+    → contains (from_list {R = nat_cmp} (filter p (range_with_len a n))) q ≡ (not (nat_lt q a) && (nat_lt q (a + n) && p q))
+contains-filter_range p a zero q = contains-empty nat_cmp q ∙ grind (arith, nat_tests)
+contains-filter_range p a (suc n) q =
+    let rest = contains-filter_range p (a + 1) n q in
+    let t = unsigned_tied q a in
+    ⊎_elim
+    (λ yes. rw yes (contains-insert nat_cmp_total _ a q ∙ ⊎_elim
+    (λ same. let e : p q ≡ true = ap p same ∙ yes in grind (arith, nat_tests))
+    (λ apart. grind (arith, nat_tests))
+    (cases_eq q a)))
+    (λ no. rw no (⊎_elim
+    (λ same. let e : p q ≡ false = ap p same ∙ no in grind (arith, nat_tests))
+    (λ apart. grind (arith, nat_tests))
+    (cases_eq q a)))
+    (cases_Bool (p a))
+
+-- the number of members of such a set
 pub count_in : (p : ℕ → Bool) (a m : ℕ)
     → len (from_list {R = nat_cmp} (filter p (range_with_len a m))) ≡ length (filter p (range_with_len a m))
 count_in p a zero = len-empty nat_cmp

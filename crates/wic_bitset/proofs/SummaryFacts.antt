@@ -1,32 +1,22 @@
 -- Every change keeps the summary.
-use Rattle.std.proofs.Common.{⊎_elim, ◌≡◌, ◌≢◌, ℕ, ◌*◌, ◌/◌, ◌<◌, ◌≤◌, true, false, List, [], ◌∷◌, map, refl, sym, ap, ◌∙◌, ◌↔◌, arith}
-use Rattle.std.specs.List.{list_any}
-use Rattle.std.specs.Ordering.{nat_cmp, eq_by_cmp}
-use Rattle.std.specs.Cmp.{nat_cmp_total, unsigned_tied}
-use Rattle.std.specs.FinSet.{FinSet, empty, contains, insert, remove, items, same_set, nat_cmp-IsAntisymmetric, contains-insert, contains-remove}
-use Rattle.std.specs.FinSet.{contains-items, contains-from_list}
-use Rattle.std.proofs.lemmas.Bool.{cases_eq, cases_Bool, false_from_ne_true}
-use Rattle.std.proofs.lemmas.Bool.Decides.{nat_tests}
-use Rattle.wic_bitset.proofs.SetFacts.{none_in_empty}
-use Rattle.wic_bitset.specs.Words.{Words, Holds, IsWordEmpty}
-use Rattle.wic_bitset.specs.Growth.{summary_count}
-use Rattle.wic_bitset.specs.Summary.{Summarizes, filled_words}
-
--- a number just put in is there
-pub there_after_insert : (s : FinSet nat_cmp) (i : ℕ) → contains (insert s i) i ≡ true
-there_after_insert s i = let t = unsigned_tied i i in contains-insert nat_cmp_total s i i ∙ grind (arith, nat_tests)
-
--- every other number is there as before
-pub same_after_insert : (s : FinSet nat_cmp) (i q : ℕ) → q ≢ i → contains (insert s i) q ≡ contains s q
-same_after_insert s i q apart = let t = unsigned_tied q i in contains-insert nat_cmp_total s i q ∙ grind (arith, nat_tests)
-
--- a number just taken out isn't there
-pub gone_after_remove : (s : FinSet nat_cmp) (i : ℕ) → contains (remove s i) i ≡ false
-gone_after_remove s i = let t = unsigned_tied i i in contains-remove nat_cmp_total s i i ∙ grind (arith, nat_tests)
-
--- every other number is there as before
-pub same_after_remove : (s : FinSet nat_cmp) (i q : ℕ) → q ≢ i → contains (remove s i) q ≡ contains s q
-same_after_remove s i q apart = let t = unsigned_tied q i in contains-remove nat_cmp_total s i q ∙ grind (arith, nat_tests)
+use Rattle.std.proofs.Common.{⊎_elim, ◌≡◌, ◌≢◌, ℕ, ◌+◌, ◌*◌, ◌/◌, ◌<◌, ◌≤◌, true, false, Bool, Option, Some, None, refl, sym, ap, subst, ◌∙◌, ◌↔◌, arith}
+use Rattle.std.specs.Int.{div_ceil}
+use Rattle.std.specs.Ordering.{nat_cmp}
+use Rattle.std.specs.Cmp.{nat_cmp_total}
+use Rattle.std.specs.FinSet.{FinSet, empty, contains, insert, remove, same_set, nat_cmp-IsAntisymmetric}
+use Rattle.std.proofs.lemmas.Bool.{cases_eq, cases_lt, cases_Bool, false_from_ne_true}
+use Rattle.std.specs.Prelude.{All}
+use Rattle.wic_bitset.specs.Rising.{rising, word_members}
+use Rattle.wic_bitset.proofs.BetweenFacts.{All-between}
+use Rattle.wic_bitset.proofs.RisingFacts.{All-rising}
+use Rattle.wic_bitset.specs.Greatest.{IsGreatest, IsMax}
+use Rattle.wic_bitset.specs.Words.{Words, most_words, EndsBefore, IsGreatestOfWord, IsMaxOfWord, IsWordEmpty}
+use Rattle.wic_bitset.specs.Summary.{Summarizes, block_words, filled_words}
+use Rattle.wic_bitset.proofs.ByWordFacts.{filled_words-empty}
+use Rattle.wic_bitset.proofs.DivisionFacts.{below_div_ceil, div_ceil-reaches}
+use Rattle.wic_bitset.proofs.GreatestFacts.{greatest_of_last_word}
+use Rattle.wic_bitset.proofs.SetFacts.{empty_of_none, none_in_empty, there_after_insert, same_after_insert, gone_after_remove}
+use Rattle.wic_bitset.proofs.SetFacts.{same_after_remove, was_before_remove}
 
 -- other words are as empty as before
 other_word : (w i k : ℕ) (s t : FinSet nat_cmp) → ((q : ℕ) → q ≢ i → contains t q ≡ contains s q) → k ≢ i / w
@@ -38,150 +28,179 @@ other_word w i k s t same apart = (
 
 module _ (w i : ℕ) (words summary words' summary' : Words) (old : Summarizes w words summary) (count : words'.count ≡ words.count)
     (size : summary'.count ≡ summary.count) where
-  holds_still : Holds w words'.count
-  holds_still = record { positive = old.holds.positive; few = omega (arith, old.holds.few) }
-
-  size_still : summary'.count ≡ summary_count w words'.count
-  size_still = size ∙ old.size ∙ ap (summary_count w) (sym count)
-
-  -- i is put in, and its word's digit
-  pub Summarizes-insert : i < words.count * w → i ≤ 4294967295 → words'.members ≡ insert words.members i
-      → summary'.members ≡ insert summary.members (i / w) → Summarizes w words' summary'
-  Summarizes-insert within small put marked = record {
-    holds = holds_still;
-    below = λ q has. rw count (⊎_elim (λ same. omega arith)
-        (λ apart. old.below q (sym (ap (λ s. contains s q) put ∙ same_after_insert words.members i q apart) ∙ has)) (cases_eq q i));
-    numbers = λ q has. ⊎_elim (λ same. omega arith)
-        (λ apart. old.numbers q (sym (ap (λ s. contains s q) put ∙ same_after_insert words.members i q apart) ∙ has)) (cases_eq q i);
-    size = size_still;
+  -- i alone and its word alone are in or out otherwise than before, and its word is marked as it should be
+  changed : ((q : ℕ) → q ≢ i → contains words'.members q ≡ contains words.members q)
+      → ((k : ℕ) → k ≢ i / w → contains summary'.members k ≡ contains summary.members k)
+      → (contains words'.members i ≡ true → (i / w < words.count) × (i ≤ 4294967295))
+      → (contains summary'.members (i / w) ≡ false) ↔ IsWordEmpty w words'.members (i / w) → Summarizes w words' summary'
+  changed others marks here word = record {
     digits = λ k. ⊎_elim
-        (λ here. (
-          λ none. let yes : contains summary'.members k ≡ true =
-              ap (contains summary'.members) here ∙ ap (λ s. contains s (i / w)) marked ∙ there_after_insert summary.members (i / w) in
-              absurd (cc),
-          λ none. let no = none i (sym here) in let yes : contains words'.members i ≡ true =
-              ap (λ s. contains s i) put ∙ there_after_insert words.members i in absurd (cc),
-        ))
+        (λ at. subst (λ k. (contains summary'.members k ≡ false) ↔ IsWordEmpty w words'.members k) (sym at) word)
         (λ apart.
-        let same : contains summary'.members k ≡ contains summary.members k =
-        ap (λ s. contains s k) marked ∙ same_after_insert summary.members (i / w) k apart in
-        let word = other_word w i k words.members words'.members
-        (λ q e. ap (λ s. contains s q) put ∙ same_after_insert words.members i q e) apart in
-        (λ none. word.1 ((old.digits k).0 (sym same ∙ none)), λ none. same ∙ (old.digits k).1 (word.0 none)))
+        let same = marks k apart in
+        let kept = other_word w i k words.members words'.members others apart in
+        (λ none. kept.1 ((old.digits k).0 (sym same ∙ none)), λ none. same ∙ (old.digits k).1 (kept.0 none)))
         (cases_eq k (i / w));
+    size = size ∙ old.size ∙ ap (λ n. div_ceil n w) (sym count);
+    ends = λ q has. rw count (⊎_elim
+        (λ at. rw at ((here (sym (ap (contains words'.members) at) ∙ has)).0))
+        (λ apart. old.ends q (sym (others q apart) ∙ has))
+        (cases_eq q i));
+    numbers = λ q has. ⊎_elim
+        (λ at. rw at ((here (sym (ap (contains words'.members) at) ∙ has)).1))
+        (λ apart. old.numbers q (sym (others q apart) ∙ has))
+        (cases_eq q i);
+    few = omega (arith, old.few);
   }
 
-  numbers_still : words'.members ≡ remove words.members i → (q : ℕ) → contains words'.members q ≡ true → q ≤ 4294967295
-  numbers_still taken q has = ⊎_elim
-      (λ same. absurd (let gone : contains words'.members q ≡ false =
-      ap (contains words'.members) same ∙ ap (λ s. contains s i) taken ∙ gone_after_remove words.members i in cc))
-      (λ apart. old.numbers q (sym (ap (λ s. contains s q) taken ∙ same_after_remove words.members i q apart) ∙ has))
-      (cases_eq q i)
+  -- i is put in, and its word
+  pub Summarizes-insert : i / w < words.count → i ≤ 4294967295 → words'.members ≡ insert words.members i
+      → summary'.members ≡ insert summary.members (i / w) → Summarizes w words' summary'
+  Summarizes-insert within small put marked = changed
+      (λ q apart. ap (λ s. contains s q) put ∙ same_after_insert words.members i q apart)
+      (λ k apart. ap (λ s. contains s k) marked ∙ same_after_insert summary.members (i / w) k apart)
+      (λ _. (within, small)) (
+        λ none. absurd (let yes = ap (λ s. contains s (i / w)) marked ∙ there_after_insert summary.members (i / w) in cc),
+        λ none. absurd (let no = none i refl in let yes = ap (λ s. contains s i) put ∙ there_after_insert words.members i in cc),
+      )
 
-  below_still : words'.members ≡ remove words.members i → (q : ℕ) → contains words'.members q ≡ true → q < words'.count * w
-  below_still taken q has = rw count (⊎_elim
-      (λ same. absurd (let gone : contains words'.members q ≡ false =
-      ap (contains words'.members) same ∙ ap (λ s. contains s i) taken ∙ gone_after_remove words.members i in cc))
-      (λ apart. old.below q (sym (ap (λ s. contains s q) taken ∙ same_after_remove words.members i q apart) ∙ has))
-      (cases_eq q i))
-
-  -- i is taken out, and its word's digit, since the word is empty now
+  -- i is taken out, and its word, since it is empty now
   pub Summarizes-emptied : words'.members ≡ remove words.members i → summary'.members ≡ remove summary.members (i / w)
       → IsWordEmpty w words'.members (i / w) → Summarizes w words' summary'
-  Summarizes-emptied taken marked none' = record {
-    holds = holds_still;
-    below = below_still taken;
-    numbers = numbers_still taken;
-    size = size_still;
-    digits = λ k. ⊎_elim
-        (λ here. (
-          λ none q at. none' q (at ∙ here),
-          λ none. ap (contains summary'.members) here ∙ ap (λ s. contains s (i / w)) marked ∙ gone_after_remove summary.members (i / w),
-        ))
-        (λ apart.
-        let same : contains summary'.members k ≡ contains summary.members k =
-        ap (λ s. contains s k) marked ∙ same_after_remove summary.members (i / w) k apart in
-        let word = other_word w i k words.members words'.members
-        (λ q e. ap (λ s. contains s q) taken ∙ same_after_remove words.members i q e) apart in
-        (λ none. word.1 ((old.digits k).0 (sym same ∙ none)), λ none. same ∙ (old.digits k).1 (word.0 none)))
-        (cases_eq k (i / w));
-  }
+  Summarizes-emptied taken marked none = changed
+      (λ q apart. ap (λ s. contains s q) taken ∙ same_after_remove words.members i q apart)
+      (λ k apart. ap (λ s. contains s k) marked ∙ same_after_remove summary.members (i / w) k apart)
+      (λ has. absurd (let gone = ap (λ s. contains s i) taken ∙ gone_after_remove words.members i in cc))
+      (λ _. none, λ _. ap (λ s. contains s (i / w)) marked ∙ gone_after_remove summary.members (i / w))
 
   -- i is taken out, and its word has another member
   pub Summarizes-kept : words'.members ≡ remove words.members i → summary'.members ≡ summary.members
       → (IsWordEmpty w words'.members (i / w) → ⊥) → Summarizes w words' summary'
-  Summarizes-kept taken marked other = record {
-    holds = holds_still;
-    below = below_still taken;
-    numbers = numbers_still taken;
-    size = size_still;
-    digits = λ k. ⊎_elim
-        (λ here. (
-          λ none q at. ⊎_elim
-              (λ same. ap (contains words'.members) same ∙ ap (λ s. contains s i) taken ∙ gone_after_remove words.members i)
-              (λ apart. ap (λ s. contains s q) taken ∙ same_after_remove words.members i q apart
-              ∙ (old.digits k).0 (ap (λ s. contains s k) (sym marked) ∙ none) q at)
-              (cases_eq q i),
-          λ none. absurd (other (λ q at. none q (at ∙ sym here))),
-        ))
-        (λ apart.
-        let same : contains summary'.members k ≡ contains summary.members k = ap (λ s. contains s k) marked in
-        let word = other_word w i k words.members words'.members
-        (λ q e. ap (λ s. contains s q) taken ∙ same_after_remove words.members i q e) apart in
-        (λ none. word.1 ((old.digits k).0 (sym same ∙ none)), λ none. same ∙ (old.digits k).1 (word.0 none)))
-        (cases_eq k (i / w));
-  }
+  Summarizes-kept taken marked other = changed
+      (λ q apart. ap (λ s. contains s q) taken ∙ same_after_remove words.members i q apart)
+      (λ k apart. ap (λ s. contains s k) marked)
+      (λ has. absurd (let gone = ap (λ s. contains s i) taken ∙ gone_after_remove words.members i in cc)) (
+        λ none q at. false_from_ne_true (contains words'.members q) (λ has.
+            let was = was_before_remove words.members i q (sym (ap (λ s. contains s q) taken) ∙ has) in
+            let no = (old.digits (i / w)).0 (ap (λ s. contains s (i / w)) (sym marked) ∙ none) q at in
+            absurd (cc)),
+        λ none. absurd (other none),
+      )
 
 -- no members, and no words that have one
-pub Summarizes-none : (w : ℕ) (words summary : Words) → Holds w words.count → words.members ≡ empty → summary.members ≡ empty
-    → summary.count ≡ summary_count w words.count → Summarizes w words summary
-Summarizes-none w words summary holds none unmarked size = record {
-  holds = holds;
-  below = λ i has. absurd (let absent = none_in_empty words.members none i in cc);
-  numbers = λ i has. absurd (let absent = none_in_empty words.members none i in cc);
-  size = size;
+pub Summarizes-none : (w : ℕ) (words summary : Words) → words.count ≤ most_words → words.members ≡ empty → summary.members ≡ empty
+    → summary.count ≡ div_ceil words.count w → Summarizes w words summary
+Summarizes-none w words summary few none unmarked size = record {
   digits = λ k. (λ _ i _. none_in_empty words.members none i, λ _. none_in_empty summary.members unmarked k);
+  size = size;
+  ends = λ i has. absurd (let absent = none_in_empty words.members none i in cc);
+  numbers = λ i has. absurd (let absent = none_in_empty words.members none i in cc);
+  few = few;
 }
+
+-- more words, and the summary that they need
+pub Summarizes-grown : (w : ℕ) (words summary words' summary' : Words) → Summarizes w words summary → words'.members ≡ words.members
+    → summary'.members ≡ summary.members → words.count ≤ words'.count → words'.count ≤ most_words
+    → summary'.count ≡ div_ceil words'.count w → Summarizes w words' summary'
+Summarizes-grown w words summary words' summary' old same marked grown few size = record {
+  digits = λ k. (
+    λ none i at. ap (λ s. contains s i) same ∙ (old.digits k).0 (sym (ap (λ s. contains s k) marked) ∙ none) i at,
+    λ none. ap (λ s. contains s k) marked ∙ (old.digits k).1 (λ i at. sym (ap (λ s. contains s i) same) ∙ none i at),
+  );
+  size = size;
+  ends = λ i has. let h = old.ends i (sym (ap (λ s. contains s i) same) ∙ has) in omega arith;
+  numbers = λ i has. old.numbers i (sym (ap (λ s. contains s i) same) ∙ has);
+  few = few;
+}
+
+-- ---- what the summary tells of the words
+
+module _ (w : ℕ) (words summary : Words) (sum : Summarizes w words summary) where
+  -- a word that the summary has is no empty word
+  pub no_empty_word : (k : ℕ) → contains summary.members k ≡ true → IsWordEmpty w words.members k → ⊥
+  no_empty_word k has none = let no : contains summary.members k ≡ false = (sum.digits k).1 none in absurd (cc)
+
+  -- where the words from n on are empty, the summary has none of them
+  pub below_end : (n : ℕ) → EndsBefore w words.members n → (k : ℕ) → contains summary.members k ≡ true → k < n
+  below_end n ends k has = ⊎_elim
+      (λ inside. inside)
+      (λ above. absurd (no_empty_word k has (λ i at. false_from_ne_true (contains words.members i)
+      (λ there. absurd (let h = ends i there in omega arith)))))
+      (cases_lt k n)
+
+  -- a word that the summary has is below the count
+  pub summary_within : (k : ℕ) → contains summary.members k ≡ true → k < words.count
+  summary_within = below_end words.count sum.ends
+
+  -- the summary ends where the words end
+  pub summary_ends : 0 < w → (n : ℕ) → EndsBefore w words.members n → EndsBefore w summary.members (div_ceil n w)
+  summary_ends some n ends k has = below_div_ceil w k n some (below_end n ends k has)
+
+  -- the greatest member stands in the greatest word that the summary has
+  pub max_through_summary : 0 < w → (k : ℕ) (r : Option ℕ) → IsGreatest summary.members k → IsMaxOfWord w words.members k r
+      → IsMax words.members r
+  max_through_summary some k None last none = absurd (no_empty_word k last.member none)
+  max_through_summary some k (Some x) last found =
+      greatest_of_last_word w words.members k x some (λ i there. ⊎_elim
+      (λ inside. inside)
+      (λ above. absurd (
+      let yes : contains summary.members (i / w) ≡ true = filled i there in
+      let le = last.greatest (i / w) yes in
+      omega arith))
+      (cases_lt (i / w) (k + 1))) found
+    where
+      filled : (i : ℕ) → contains words.members i ≡ true → contains summary.members (i / w) ≡ true
+      filled i there = ⊎_elim
+          (λ yes. yes)
+          (λ no. absurd (let none = (sum.digits (i / w)).0 no i refl in cc))
+          (cases_Bool (contains summary.members (i / w)))
+
+  -- there is no member where the summary is empty
+  pub none_through_summary : summary.members ≡ empty → words.members ≡ empty
+  none_through_summary none =
+      empty_of_none words.members (λ i. (sum.digits (i / w)).0 (none_in_empty summary.members none (i / w)) i refl)
 
 -- ---- the summary is the set of the words that have a member
 
-none_of_map : (f : ℕ → ℕ) (k : ℕ) (xs : List ℕ) → ((x : ℕ) → list_any (eq_by_cmp nat_cmp x) xs ≡ true → f x ≢ k)
-    → list_any (eq_by_cmp nat_cmp k) (map f xs) ≡ false
-none_of_map f k [] none = refl
-none_of_map f k (x ∷ xs) none =
-    let tx = unsigned_tied x x in
-    let tk = unsigned_tied k (f x) in
-    let here : f x ≢ k = none x (grind (arith, nat_tests)) in
-    let rest : list_any (eq_by_cmp nat_cmp k) (map f xs) ≡ false = none_of_map f k xs (λ y has. none y (grind (arith, nat_tests))) in
-    grind (arith, nat_tests)
-
-each_of_map : (f : ℕ → ℕ) (k : ℕ) (xs : List ℕ) → list_any (eq_by_cmp nat_cmp k) (map f xs) ≡ false → (x : ℕ)
-    → list_any (eq_by_cmp nat_cmp x) xs ≡ true → f x ≢ k
-each_of_map f k [] none x has = absurd (cc)
-each_of_map f k (y ∷ xs) none x has =
-    let tx = unsigned_tied x y in
-    let tk = unsigned_tied k (f y) in
-    ⊎_elim
-    (λ same. λ at. let e : f y ≡ k = ap f (sym same) ∙ at in absurd (grind (arith, nat_tests)))
-    (λ apart. each_of_map f k xs (grind (arith, nat_tests)) x (grind (arith, nat_tests)))
-    (cases_eq x y)
-
--- the members of the summary are the words that have a member
 pub summary_is_filled_words : (w : ℕ) (words summary : Words) → Summarizes w words summary
     → summary.members ≡ filled_words w words.members
-summary_is_filled_words w words summary sum =
-    same_set nat_cmp_total nat_cmp-IsAntisymmetric _ _ (λ k.
-    let listed : contains (filled_words w words.members) k ≡ list_any (eq_by_cmp nat_cmp k) (map (λ i. i / w) (items words.members)) =
-    contains-from_list nat_cmp_total (map (λ i. i / w) (items words.members)) k in
-    ⊎_elim
-    (λ has. ⊎_elim
-    (λ yes'. has ∙ sym (listed ∙ yes'))
-    (λ no'. absurd (let gone : contains summary.members k ≡ false =
-    (sum.digits k).1 (λ i at. false_from_ne_true (contains words.members i)
-    (λ there. each_of_map (λ i. i / w) k (items words.members) no' i (sym (contains-items words.members i) ∙ there) at)) in cc))
-    (cases_Bool (list_any (eq_by_cmp nat_cmp k) (map (λ i. i / w) (items words.members)))))
-    (λ none. none ∙ sym (listed ∙ none_of_map (λ i. i / w) k (items words.members) (λ x has at.
-    let there : contains words.members x ≡ true = contains-items words.members x ∙ has in
-    let gone : contains words.members x ≡ false = (sum.digits k).0 none x at in
-    absurd (cc))))
-    (cases_Bool (contains summary.members k)))
+summary_is_filled_words w words summary sum = same_set nat_cmp_total nat_cmp-IsAntisymmetric _ _ (λ k.
+    let listed = filled_words-empty w words.members k in
+    same_bits (contains summary.members k) (contains (filled_words w words.members) k)
+    (λ none. listed.1 ((sum.digits k).0 none))
+    (λ none. (sum.digits k).1 (listed.0 none)))
+  where
+    same_bits : (a b : Bool) → (a ≡ false → b ≡ false) → (b ≡ false → a ≡ false) → a ≡ b
+    same_bits true true f g = refl
+    same_bits true false f g = absurd (let no = g refl in cc)
+    same_bits false b f g = sym (f refl)
+
+-- a word that has a member is there
+filled_within : (w : ℕ) (words summary : Words) → Summarizes w words summary → (k : ℕ)
+    → contains (filled_words w words.members) k ≡ true → k < words.count
+filled_within w words summary sum k has =
+    summary_within w words summary sum k (ap (λ s. contains s k) (summary_is_filled_words w words summary sum) ∙ has)
+
+-- and stands in the summary's words
+pub filled_below : (w : ℕ) (words summary : Words) → 0 < w → Summarizes w words summary → (k : ℕ)
+    → contains (filled_words w words.members) k ≡ true → k < summary.count * w
+filled_below w words summary some sum k has =
+    let below = filled_within w words summary sum k has in
+    let reaches = div_ceil-reaches w words.count some in
+    let size = ap (λ n. n * w) sum.size in
+    omega arith
+
+-- each word that has a member is there
+pub All-filled : (w : ℕ) (words summary : Words) → Summarizes w words summary
+    → All (λ k. k < words.count) (rising (filled_words w words.members))
+All-filled w words summary sum = All-rising (λ k. k < words.count) (filled_words w words.members) (filled_within w words summary sum)
+
+-- what stands in word s of the summary
+pub block_words-are : (w : ℕ) (words summary : Words) → Summarizes w words summary → (s : ℕ)
+    → word_members w summary.members s ≡ block_words w words.members s
+block_words-are w words summary sum s = ap (λ t. word_members w t s) (summary_is_filled_words w words summary sum)
+
+pub All-block_words : (w : ℕ) (words summary : Words) → Summarizes w words summary → (s : ℕ)
+    → All (λ k. k < words.count) (block_words w words.members s)
+All-block_words w words summary sum s = All-between (λ k. k < words.count) (filled_words w words.members) (s * w) (s * w + w)
+    (filled_within w words summary sum)

@@ -2,46 +2,26 @@
 use Rattle.std.proofs.Common.{⊎_elim, ◌≡◌, ◌≢◌, ℕ, zero, suc, ◌+◌, ◌*◌, ◌/◌, ◌%◌, ◌<◌, ◌≤◌, Bool, true, false, not, ◌&&◌, ◌||◌, List, []}
 use Rattle.std.proofs.Common.{◌∷◌, ◌++◌, length-append, length, map, get_or, set, Option, Some, None, slice_get, refl, sym, ap, subst}
 use Rattle.std.proofs.Common.{◌∙◌, ◌↔◌, arith}
-use Rattle.std.specs.Prelude.{◌==◌, nat_lt, nat_eq}
+use Rattle.std.specs.Prelude.{◌==◌, nat_lt, nat_eq, All, Contains}
 use Rattle.std.specs.List.{filter, range_with_len}
 use Rattle.std.proofs.Common.{take, min, length-take}
 use Rattle.std.proofs.lemmas.List.{take-map, get_or-take}
 use Rattle.std.specs.Ordering.{nat_cmp, eq_by_cmp}
 use Rattle.std.specs.Cmp.{nat_cmp_total, unsigned_tied}
-use Rattle.std.specs.FinSet.{empty, contains, insert, remove, from_list, same_set, nat_cmp-IsAntisymmetric, contains-empty, contains-insert}
+use Rattle.std.specs.FinSet.{FinSet, empty, contains, insert, remove, from_list, same_set, nat_cmp-IsAntisymmetric, contains-empty, contains-insert}
 use Rattle.std.specs.FinSet.{contains-remove}
-use Rattle.std.proofs.lemmas.Bool.{cases_eq, cases_lt, cases_Bool}
+use Rattle.std.proofs.lemmas.Bool.{cases_eq, cases_lt, cases_Bool, false_from_ne_true}
+use Rattle.std.proofs.lemmas.List.Elements.{All-contains}
 use Rattle.std.proofs.lemmas.Bool.Decides.{nat_tests}
 use Rattle.std.proofs.lemmas.List.{length-map, map-append, get_or_at, get_or_append_left, get_or-set_same, get_or-set_other, map-set}
-use Rattle.std.proofs.lemmas.Nat.{mod_below, le-div, div-mul-add, mod-mul-add}
+use Rattle.std.proofs.lemmas.Nat.{div_below, mod_below, le-div, div-mul-add, mod-mul-add, div-add-mod'}
 use Rattle.std.proofs.Math.Nat.{mod-add-div, mul_comm}
 use Rattle.wic_scalar.specs.Digits.{is_one}
 use Rattle.wic_scalar.specs.Scalar.{set_of, members_of}
 use Rattle.wic_scalar.proofs.DigitLemmas.{is_one-zero}
-use Rattle.wic_scalar.proofs.MemberLemmas.{contains-set_of, members_of-none, none_from_members}
-use Rattle.wic_bitset.proofs.SetFacts.{empty_of_none}
-use Rattle.wic_bitset.specs.Walk.{AreFirstWords}
-use Rattle.wic_bitset.specs.Words.{has, compound_set, IsWordOf, IsWordEmpty}
-
--- ---- wic_scalar should offer these three
-
--- the set of a range that a test filters
-pub contains-filter_range : (p : ℕ → Bool) (a n q : ℕ)
-    → contains (from_list {R = nat_cmp} (filter p (range_with_len a n))) q ≡ (not (nat_lt q a) && (nat_lt q (a + n) && p q))
-contains-filter_range p a zero q = contains-empty nat_cmp q ∙ grind (arith, nat_tests)
-contains-filter_range p a (suc n) q =
-    let rest = contains-filter_range p (a + 1) n q in
-    let t = unsigned_tied q a in
-    ⊎_elim
-    (λ yes. rw yes (contains-insert nat_cmp_total _ a q ∙ ⊎_elim
-    (λ same. let e : p q ≡ true = ap p same ∙ yes in grind (arith, nat_tests))
-    (λ apart. grind (arith, nat_tests))
-    (cases_eq q a)))
-    (λ no. rw no (⊎_elim
-    (λ same. let e : p q ≡ false = ap p same ∙ no in grind (arith, nat_tests))
-    (λ apart. grind (arith, nat_tests))
-    (cases_eq q a)))
-    (cases_Bool (p a))
+use Rattle.wic_scalar.proofs.MemberLemmas.{contains-set_of, Contains-set_of, members_of-none, none_from_members}
+use Rattle.wic_bitset.proofs.SetFacts.{contains-filter_range, empty_of_none}
+use Rattle.wic_bitset.specs.Words.{has, set_of_words, AreFirstWords, EndsBefore, IsGreatestOfWord, IsWordOf, IsWordEmpty}
 
 -- the digits once i is put in
 pub digit_with : (w n m i k : ℕ) → set_of w m ≡ insert (set_of w n) i → k < w → is_one m k ≡ (is_one n k || (k == i))
@@ -97,9 +77,9 @@ module _ {X : Type 0} (f : X → ℕ) where
   map_past (y ∷ items) zero none = absurd (cc)
   map_past (y ∷ items) (suc k) none = map_past items k none
 
-pub contains-compound : (w : ℕ) (words : List ℕ) (q : ℕ) → 0 < w → contains (compound_set w words) q ≡ has w words q
-unfolding compound_set
-contains-compound w words q some = contains-filter_range (has w words) 0 (length words * w) q ∙ ⊎_elim
+pub contains-set_of_words : (w : ℕ) (words : List ℕ) (q : ℕ) → 0 < w → contains (set_of_words w words) q ≡ has w words q
+unfolding set_of_words
+contains-set_of_words w words q some = contains-filter_range (has w words) 0 (length words * w) q ∙ ⊎_elim
     (λ below. grind (arith, nat_tests))
     (λ above.
     let past : length words ≤ q / w = le-div (length words) q w some above in
@@ -108,15 +88,15 @@ contains-compound w words q some = contains-filter_range (has w words) 0 (length
     (cases_lt q (length words * w))
 
 -- i, at digit j of word k, is put in
-pub compound_set-insert : (w : ℕ) (words : List ℕ) (k j m i : ℕ) → j < w → k < length words → i ≡ k * w + j
-    → set_of w m ≡ insert (set_of w (get_or words k 0)) j → compound_set w (set words k m) ≡ insert (compound_set w words) i
-compound_set-insert w words k j m i low within at put =
+pub set_of_words-insert : (w : ℕ) (words : List ℕ) (k j m i : ℕ) → j < w → k < length words → i ≡ k * w + j
+    → set_of w m ≡ insert (set_of w (get_or words k 0)) j → set_of_words w (set words k m) ≡ insert (set_of_words w words) i
+set_of_words-insert w words k j m i low within at put =
     let some : 0 < w = omega arith in
     same_set nat_cmp_total nat_cmp-IsAntisymmetric _ _ (λ q.
-    let new = contains-compound w (set words k m) q some in
-    let old = contains-compound w words q some in
-    let c : contains (insert (compound_set w words) i) q ≡ (eq_by_cmp nat_cmp q i || contains (compound_set w words) q) =
-    contains-insert nat_cmp_total (compound_set w words) i q in
+    let new = contains-set_of_words w (set words k m) q some in
+    let old = contains-set_of_words w words q some in
+    let c : contains (insert (set_of_words w words) i) q ≡ (eq_by_cmp nat_cmp q i || contains (set_of_words w words) q) =
+    contains-insert nat_cmp_total (set_of_words w words) i q in
     let t : eq_by_cmp nat_cmp q i ≡ nat_eq q i = unsigned_tied q i in
     let b : q % w < w = mod_below q w some in
     let whole : q % w + w * (q / w) ≡ q = mod-add-div q w in
@@ -141,14 +121,14 @@ compound_set-insert w words k j m i low within at put =
 
 module _ {X : Type 0} (f : X → ℕ) where
   pub in_word : (w i : ℕ) (items : List X) (x : X) → 0 < w → slice_get items (i / w) ≡ Some x
-      → contains (compound_set w (map f items)) i ≡ contains (set_of w (f x)) (i % w)
+      → contains (set_of_words w (map f items)) i ≡ contains (set_of w (f x)) (i % w)
   in_word w i items x some found =
-      contains-compound w (map f items) i some ∙ ap (λ n. is_one n (i % w)) (map_at f items (i / w) x found)
+      contains-set_of_words w (map f items) i some ∙ ap (λ n. is_one n (i % w)) (map_at f items (i / w) x found)
       ∙ sym (contains_below w (f x) (i % w) (mod_below i w some))
 
-  pub in_no_word : (w i : ℕ) (items : List X) → 0 < w → slice_get items (i / w) ≡ None → contains (compound_set w (map f items)) i ≡ false
+  pub in_no_word : (w i : ℕ) (items : List X) → 0 < w → slice_get items (i / w) ≡ None → contains (set_of_words w (map f items)) i ≡ false
   in_no_word w i items some none =
-      contains-compound w (map f items) i some ∙ ap (λ n. is_one n (i % w)) (map_past f items (i / w) none) ∙ is_one-zero (i % w)
+      contains-set_of_words w (map f items) i some ∙ ap (λ n. is_one n (i % w)) (map_past f items (i / w) none) ∙ is_one-zero (i % w)
 
   below_length : (items : List X) (k : ℕ) (x : X) → slice_get items k ≡ Some x → k < length (map f items)
   below_length [] k x found = absurd (cc)
@@ -157,25 +137,25 @@ module _ {X : Type 0} (f : X → ℕ) where
 
   pub put_in_word : (w i : ℕ) (items : List X) (x y : X) → 0 < w → slice_get items (i / w) ≡ Some x
       → set_of w (f y) ≡ insert (set_of w (f x)) (i % w)
-      → compound_set w (map f (set items (i / w) y)) ≡ insert (compound_set w (map f items)) i
+      → set_of_words w (map f (set items (i / w) y)) ≡ insert (set_of_words w (map f items)) i
   put_in_word w i items x y some found put =
       let whole : i % w + w * (i / w) ≡ i = mod-add-div i w in
       let turned : w * (i / w) ≡ i / w * w = mul_comm w (i / w) in
       let at : i ≡ i / w * w + i % w = omega arith in
-      ap (compound_set w) (map-set f items (i / w) y)
-      ∙ compound_set-insert w (map f items) (i / w) (i % w) (f y) i (mod_below i w some) (below_length items (i / w) x found) at
+      ap (set_of_words w) (map-set f items (i / w) y)
+      ∙ set_of_words-insert w (map f items) (i / w) (i % w) (f y) i (mod_below i w some) (below_length items (i / w) x found) at
       (put ∙ ap (λ n. insert (set_of w n) (i % w)) (sym (map_at f items (i / w) x found)))
 
 -- i, at digit j of word k, is taken out
-pub compound_set-remove : (w : ℕ) (words : List ℕ) (k j m i : ℕ) → j < w → k < length words → i ≡ k * w + j
-    → set_of w m ≡ remove (set_of w (get_or words k 0)) j → compound_set w (set words k m) ≡ remove (compound_set w words) i
-compound_set-remove w words k j m i low within at put =
+pub set_of_words-remove : (w : ℕ) (words : List ℕ) (k j m i : ℕ) → j < w → k < length words → i ≡ k * w + j
+    → set_of w m ≡ remove (set_of w (get_or words k 0)) j → set_of_words w (set words k m) ≡ remove (set_of_words w words) i
+set_of_words-remove w words k j m i low within at put =
     let some : 0 < w = omega arith in
     same_set nat_cmp_total nat_cmp-IsAntisymmetric _ _ (λ q.
-    let new = contains-compound w (set words k m) q some in
-    let old = contains-compound w words q some in
-    let c : contains (remove (compound_set w words) i) q ≡ (not (eq_by_cmp nat_cmp q i) && contains (compound_set w words) q) =
-    contains-remove nat_cmp_total (compound_set w words) i q in
+    let new = contains-set_of_words w (set words k m) q some in
+    let old = contains-set_of_words w words q some in
+    let c : contains (remove (set_of_words w words) i) q ≡ (not (eq_by_cmp nat_cmp q i) && contains (set_of_words w words) q) =
+    contains-remove nat_cmp_total (set_of_words w words) i q in
     let t : eq_by_cmp nat_cmp q i ≡ nat_eq q i = unsigned_tied q i in
     let b : q % w < w = mod_below q w some in
     let whole : q % w + w * (q / w) ≡ q = mod-add-div q w in
@@ -197,30 +177,30 @@ compound_set-remove w words k j m i low within at put =
     (cases_eq (q / w) k))
 
 -- no member stands above the words
-pub below_capacity : (w : ℕ) (words : List ℕ) (i : ℕ) → 0 < w → contains (compound_set w words) i ≡ true → i < length words * w
+pub below_capacity : (w : ℕ) (words : List ℕ) (i : ℕ) → 0 < w → contains (set_of_words w words) i ≡ true → i < length words * w
 below_capacity w words i some there = ⊎_elim
     (λ below. below)
     (λ above.
     let past : length words ≤ i / w = le-div (length words) i w some above in
-    let none : contains (compound_set w words) i ≡ false =
-    contains-compound w words i some ∙ ap (λ x. is_one x (i % w)) (past_end words (i / w) past) ∙ is_one-zero (i % w) in
+    let none : contains (set_of_words w words) i ≡ false =
+    contains-set_of_words w words i some ∙ ap (λ x. is_one x (i % w)) (past_end words (i / w) past) ∙ is_one-zero (i % w) in
     absurd (cc))
     (cases_lt i (length words * w))
 
 module _ {X : Type 0} (f : X → ℕ) where
   pub take_from_word : (w i : ℕ) (items : List X) (x y : X) → 0 < w → slice_get items (i / w) ≡ Some x
       → set_of w (f y) ≡ remove (set_of w (f x)) (i % w)
-      → compound_set w (map f (set items (i / w) y)) ≡ remove (compound_set w (map f items)) i
+      → set_of_words w (map f (set items (i / w) y)) ≡ remove (set_of_words w (map f items)) i
   take_from_word w i items x y some found put =
       let whole : i % w + w * (i / w) ≡ i = mod-add-div i w in
       let turned : w * (i / w) ≡ i / w * w = mul_comm w (i / w) in
       let at : i ≡ i / w * w + i % w = omega arith in
-      ap (compound_set w) (map-set f items (i / w) y)
-      ∙ compound_set-remove w (map f items) (i / w) (i % w) (f y) i (mod_below i w some) (below_length f items (i / w) x found) at
+      ap (set_of_words w) (map-set f items (i / w) y)
+      ∙ set_of_words-remove w (map f items) (i / w) (i % w) (f y) i (mod_below i w some) (below_length f items (i / w) x found) at
       (put ∙ ap (λ n. remove (set_of w n) (i % w)) (sym (map_at f items (i / w) x found)))
 
   -- word k, digit by digit
-  pub word_of : (w k : ℕ) (items : List X) (x : X) → slice_get items k ≡ Some x → IsWordOf w (compound_set w (map f items)) k (f x)
+  pub word_of : (w k : ℕ) (items : List X) (x : X) → slice_get items k ≡ Some x → IsWordOf w (set_of_words w (map f items)) k (f x)
   word_of w k items x found j low =
       let some : 0 < w = omega arith in
       let place : (k * w + j) / w ≡ k = div-mul-add k w j low in
@@ -229,7 +209,7 @@ module _ {X : Type 0} (f : X → ℕ) where
       ∙ ap (contains (set_of w (f x))) digit)
 
   pub word_is_empty : (w k : ℕ) (items : List X) (x : X) → 0 < w → slice_get items k ≡ Some x
-      → (members_of w (f x) ≡ []) ↔ IsWordEmpty w (compound_set w (map f items)) k
+      → (members_of w (f x) ≡ []) ↔ IsWordEmpty w (set_of_words w (map f items)) k
   word_is_empty w k items x some found = (
     λ none i at.
         let digit : is_one (f x) (i % w) ≡ false = none_from_members w (f x) (i % w) none (mod_below i w some) in
@@ -239,11 +219,14 @@ module _ {X : Type 0} (f : X → ℕ) where
         (λ j low. sym (contains_below w (f x) j low) ∙ word_of w k items x found j low ∙ none (k * w + j) (div-mul-add k w j low)),
   )
 
-  pub no_word_is_empty : (w k : ℕ) (items : List X) → 0 < w → slice_get items k ≡ None → IsWordEmpty w (compound_set w (map f items)) k
+  pub no_word_is_empty : (w k : ℕ) (items : List X) → 0 < w → slice_get items k ≡ None → IsWordEmpty w (set_of_words w (map f items)) k
   no_word_is_empty w k items some none i at = in_no_word f w i items some (subst (λ q. slice_get items q ≡ None) (sym at) none)
 
-  pub within_words : (w i : ℕ) (items : List X) → 0 < w → contains (compound_set w (map f items)) i ≡ true → i < length items * w
+  pub within_words : (w i : ℕ) (items : List X) → 0 < w → contains (set_of_words w (map f items)) i ≡ true → i < length items * w
   within_words w i items some there = subst (λ n. i < n * w) (length-map items f) (below_capacity w (map f items) i some there)
+
+  pub ends_of_words : (w : ℕ) (items : List X) → 0 < w → EndsBefore w (set_of_words w (map f items)) (length items)
+  ends_of_words w items some i there = div_below i w (length items) some (within_words w i items some there)
 
 -- one more word with no member changes no member
 has_more : (w : ℕ) (words : List ℕ) (m q : ℕ) → 0 < w → ((j : ℕ) → j < w → is_one m j ≡ false) → has w (words ++ m ∷ []) q ≡ has w words q
@@ -260,32 +243,69 @@ has_more w words m q some none = ⊎_elim
     (cases_eq (q / w) (length words)))
     (cases_lt (q / w) (length words))
 
-pub compound_set-push : {X : Type 0} (f : X → ℕ) (w : ℕ) (items : List X) (y : X) → 0 < w → members_of w (f y) ≡ []
-    → compound_set w (map f (items ++ y ∷ [])) ≡ compound_set w (map f items)
-compound_set-push f w items y some none =
-    ap (compound_set w) (map-append f items (y ∷ [])) ∙ same_set nat_cmp_total nat_cmp-IsAntisymmetric _ _ (λ q.
-    contains-compound w (map f items ++ f y ∷ []) q some
+pub set_of_words-push : {X : Type 0} (f : X → ℕ) (w : ℕ) (items : List X) (y : X) → 0 < w → members_of w (f y) ≡ []
+    → set_of_words w (map f (items ++ y ∷ [])) ≡ set_of_words w (map f items)
+set_of_words-push f w items y some none =
+    ap (set_of_words w) (map-append f items (y ∷ [])) ∙ same_set nat_cmp_total nat_cmp-IsAntisymmetric _ _ (λ q.
+    contains-set_of_words w (map f items ++ f y ∷ []) q some
     ∙ has_more w (map f items) (f y) q some (λ j low. none_from_members w (f y) j none low)
-    ∙ sym (contains-compound w (map f items) q some))
+    ∙ sym (contains-set_of_words w (map f items) q some))
 
 -- no words have no member
-pub no_words : (w : ℕ) → 0 < w → compound_set w [] ≡ empty
-no_words w some = empty_of_none (compound_set w []) (λ q. contains-compound w [] q some ∙ is_one-zero (q % w))
+pub no_words : (w : ℕ) → 0 < w → set_of_words w [] ≡ empty
+no_words w some = empty_of_none (set_of_words w []) (λ q. contains-set_of_words w [] q some ∙ is_one-zero (q % w))
 
 -- the numbers are the words
-pub word_of_list : (w : ℕ) (words : List ℕ) (k : ℕ) → IsWordOf w (compound_set w words) k (get_or words k 0)
+pub word_of_list : (w : ℕ) (words : List ℕ) (k : ℕ) → IsWordOf w (set_of_words w words) k (get_or words k 0)
 word_of_list w words k j low =
     let some : 0 < w = omega arith in
     contains_below w (get_or words k 0) j low
     ∙ ap (λ q. is_one (get_or words q 0) j) (sym (div-mul-add k w j low))
     ∙ ap (is_one (get_or words ((k * w + j) / w) 0)) (sym (mod-mul-add k w j low))
-    ∙ sym (contains-compound w words (k * w + j) some)
+    ∙ sym (contains-set_of_words w words (k * w + j) some)
 
 -- the first words of a list are those of the set
 pub first_words_of : {X : Type 0} (f : X → ℕ) (w n : ℕ) (items : List X) →
-    AreFirstWords w (compound_set w (map f items)) (map f (take n items))
+    AreFirstWords w (set_of_words w (map f items)) (map f (take n items))
 first_words_of f w n items k below =
     let long : length (map f (take n items)) ≡ min n (length items) = length-map (take n items) f ∙ length-take n items in
     let same : get_or (map f (take n items)) k 0 ≡ get_or (map f items) k 0 =
     ap (λ l. get_or l k 0) (sym (take-map f n items)) ∙ get_or-take n (map f items) k 0 (omega arith) in
-    subst (λ m. IsWordOf w (compound_set w (map f items)) k m) (sym same) (word_of_list w (map f items) k)
+    subst (λ m. IsWordOf w (set_of_words w (map f items)) k m) (sym same) (word_of_list w (map f items) k)
+
+-- ---- the members in one word, by its digits
+
+-- the greatest of the list is the greatest of the set
+greatest_of_set : (w n x : ℕ) → Contains (members_of w n) x → All (λ k. k ≤ x) (members_of w n)
+    → (contains (set_of w n) x ≡ true) × ((j : ℕ) → x < j → contains (set_of w n) j ≡ false)
+greatest_of_set w n x has greatest = (
+  (Contains-set_of w n x).0 has,
+  λ j after. false_from_ne_true (contains (set_of w n) j)
+      (λ yes. let at : j ≤ x = All-contains (λ k. k ≤ x) (members_of w n) j greatest ((Contains-set_of w n j).1 yes) in omega arith),
+)
+
+-- a set with no members in its list is empty
+none_of_set : (w n j : ℕ) → members_of w n ≡ [] → j < w → contains (set_of w n) j ≡ false
+none_of_set w n j none low = contains_below w n j low ∙ none_from_members w n j none low
+
+module _ (w : ℕ) (s : FinSet nat_cmp) (k n : ℕ) (some : 0 < w) (word : IsWordOf w s k n) where
+  -- a number of the word by its digit
+  by_digit : (i : ℕ) → i / w ≡ k → contains s i ≡ contains (set_of w n) (i % w)
+  by_digit i at =
+      let place : i ≡ k * w + i % w = sym (div-add-mod' i w) ∙ ap (λ k. k * w + i % w) at in
+      ap (contains s) place ∙ sym (word (i % w) (mod_below i w some))
+
+  pub empty_word : members_of w n ≡ [] → IsWordEmpty w s k
+  empty_word none i at = by_digit i at ∙ none_of_set w n (i % w) none (mod_below i w some)
+
+  pub greatest_of_word : (x : ℕ) → x < w → Contains (members_of w n) x → All (λ j. j ≤ x) (members_of w n)
+      → IsGreatestOfWord w s k (k * w + x)
+  greatest_of_word x low there above =
+      let last = greatest_of_set w n x there above in record {
+        member = sym (word x low) ∙ last.0;
+        word = div-mul-add k w x low;
+        greatest = λ i at has. ⊎_elim
+            (λ beyond. absurd (let no = by_digit i at ∙ last.1 (i % w) beyond in cc))
+            (λ le. let place = div-add-mod' i w in let start : i / w * w ≡ k * w = ap (λ k. k * w) at in omega arith)
+            (cases_lt x (i % w));
+      }

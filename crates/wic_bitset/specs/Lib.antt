@@ -1,7 +1,7 @@
 -- What contracts see of a set.
 pub mod Compound
+pub mod Greatest
 pub mod Growth
 pub mod Rising
 pub mod Summary
-pub mod Walk
 pub mod Words

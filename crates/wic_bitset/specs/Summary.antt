@@ -1,19 +1,20 @@
 -- The summary of a set in words: the numbers of the words that have a member.
 use Rattle.std.specs.Prelude.{◌≡◌, ℕ, ◌*◌, ◌/◌, ◌≤◌, ◌<◌, List, map, false, true, ◌↔◌}
 use Rattle.std.specs.List.{flat_map}
+use Rattle.std.specs.Int.{div_ceil}
 use Rattle.std.specs.Ordering.{nat_cmp}
 use Rattle.std.specs.FinSet.{FinSet, contains, items, from_list}
-use Rattle.wic_bitset.specs.Growth.{summary_count}
 use Rattle.wic_bitset.specs.Rising.{word_members}
-use Rattle.wic_bitset.specs.Words.{Words, Holds, IsWordEmpty}
+use Rattle.wic_bitset.specs.Words.{Words, most_words, EndsBefore, IsWordEmpty}
 
--- the summary has a digit 1 exactly at the words that have a member, and just the words that it needs; no member is above 4294967295
+-- the summary has just the words that have a member, in as many words as it needs
 pub record Summarizes (w : ℕ) (words summary : Words) : Type 0 where
-  pub holds : Holds w words.count
-  pub below : (i : ℕ) → contains words.members i ≡ true → i < words.count * w
-  pub numbers : (i : ℕ) → contains words.members i ≡ true → i ≤ 4294967295
-  pub size : summary.count ≡ summary_count w words.count
   pub digits : (k : ℕ) → (contains summary.members k ≡ false) ↔ IsWordEmpty w words.members k
+  pub size : summary.count ≡ div_ceil words.count w
+  -- and of the words themselves: each member has one, none is above 4294967295, and there are not too many
+  pub ends : EndsBefore w words.members words.count
+  pub numbers : (i : ℕ) → contains words.members i ≡ true → i ≤ 4294967295
+  pub few : words.count ≤ most_words
 
 -- the words that have a member: the different values of a member divided by the width, rounded down
 abbrev pub filled_words : ℕ → FinSet nat_cmp → FinSet nat_cmp

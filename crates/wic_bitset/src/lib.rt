@@ -9,8 +9,10 @@ mod scalars;
 mod set;
 mod steps;
 mod store;
+mod store_iter;
 #[cfg(test)]
 mod tests;
+mod word_iter;
 
 pub use iter::Iter;
 pub use laws::law_growth;

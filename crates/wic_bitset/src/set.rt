@@ -1,18 +1,23 @@
-//! A set in words with a summary of which words have a member.
-ghost use Rattle.std.specs.Prelude.{◌≡◌, ◌+◌, ◌*◌, ◌/◌, ◌<◌, ◌≤◌, ◌↔◌, ◌++◌, ℕ, not, true, false, length};
-ghost use Rattle.std.specs.Prelude.{map, IsTrue, IsOk, OnOk, OnErr, IsNone, IfSome, IfNone, IfOk};
+//! The compound set.
+ghost use Rattle.std.specs.Prelude.{◌≡◌, ◌+◌, ◌*◌, ◌/◌, ◌<◌, ◌≤◌, ◌↔◌, ◌++◌, ℕ, not, true, length, map};
+ghost use Rattle.std.specs.Prelude.{IsTrue, IsOk, OnOk, OnErr, IsNone, IfSome, IfNone, IfOk, Some};
+ghost use Rattle.std.specs.List.Sorted.{IsStrictlyIncreasing};
 ghost use Rattle.std.specs.FinSet as fin_set;
+ghost use Rattle.std.specs.Int.{div_ceil};
+ghost use Rattle.std.specs.Ordering.{nat_cmp};
 ghost use Rattle.wic_bitset.specs.Compound.{capacity_of};
-ghost use Rattle.wic_bitset.specs.Growth.{count_after, count_for, summary_count};
-ghost use Rattle.wic_bitset.specs.Rising.{rising};
-ghost use Rattle.wic_bitset.specs.Summary.{block_members, block_words, filled_words};
-ghost use Rattle.wic_bitset.specs.Walk.{NextFrom, LastBefore, AreWords};
-ghost use Rattle.wic_bitset.specs.Words.{IsWordEmpty};
+ghost use Rattle.wic_bitset.specs.Greatest.{IsGreatest, IsMax};
+ghost use Rattle.wic_bitset.specs.Growth.{count_after, count_for};
+ghost use Rattle.wic_bitset.specs.Rising.{rising, word_members};
+ghost use Rattle.wic_bitset.specs.Summary.{block_members, block_words, filled_words, Summarizes};
+ghost use Rattle.wic_bitset.specs.Words.{AreWords, EndsBefore, IsWordEmpty};
 
 use crate::growth::grown_count;
+use crate::iter::Iter;
 use crate::scalars::IterScalars;
 use crate::steps::Steps;
 use crate::store::Store;
+use crate::store_iter::StoreIter;
 use std::alloc::Global;
 use std::marker::Model;
 use std::sync::ledger::Ledger;
@@ -25,14 +30,17 @@ use wic_vec::TryVec;
 /// A contract sees its `members`, a finite set, and the number of its `words`; the capacity is the words times the
 /// width of `T`. Port of `cranelift_bitset::CompoundBitSet`.
 #[derive(Drop)]
-pub struct CompoundBitSet<T: ScalarBitSetStorage> {
+pub struct CompoundBitSet<T: ScalarBitSetStorage = usize> {
     words: Store<T>,
     // The numbers of the words that have a member.
     summary: Store<T>,
+    // The greatest member.
+    max: Option<usize>,
 }
 
 impl<T: ScalarBitSetStorage> Model for CompoundBitSet<T> {
     ghost use Rattle.wic_bitset.specs.Compound.{Compound, compound_code};
+    ghost use Rattle.wic_bitset.specs.Greatest.{IsMax};
     ghost use Rattle.wic_bitset.specs.Summary.{Summarizes};
 
     ghost Value = { Compound };
@@ -41,7 +49,7 @@ impl<T: ScalarBitSetStorage> Model for CompoundBitSet<T> {
 
     ghost view = { λ s. record { members = s.words.members; words = s.words.count } };
 
-    ghost invariant = { λ s. Summarizes T.width s.words s.summary };
+    ghost invariant = { λ s. Summarizes T.width s.words s.summary × IsMax s.words.members s.max };
 }
 
 impl<T: ScalarBitSetStorage> CompoundBitSet<T> {
@@ -55,6 +63,7 @@ impl<T: ScalarBitSetStorage> CompoundBitSet<T> {
         CompoundBitSet {
             words: Store::new(alloc),
             summary: Store::new(alloc),
+            max: None,
         }
     }
 
@@ -97,7 +106,12 @@ impl<T: ScalarBitSetStorage> CompoundBitSet<T> {
     {
         let words = self.words.try_clone(alloc)?;
         let summary = self.summary.try_clone(alloc)?;
-        Ok(CompoundBitSet { words, summary })
+        let max = self.max;
+        Ok(CompoundBitSet {
+            words,
+            summary,
+            max,
+        })
     }
 
     /// Makes room for the numbers below `n`, as `try_ensure_capacity` does.
@@ -166,10 +180,10 @@ impl<T: ScalarBitSetStorage> CompoundBitSet<T> {
         ensures members { self.new.members ≡ fin_set.remove self.old.members i }
         ensures words { self.new.words ≡ self.old.words }
     {
-        let was_present = self.words.remove(i);
-        let word = i / T::width() as usize;
-        if self.words.is_word_empty(word) {
-            self.summary.remove(word);
+        let was_present = remove_from(&mut self.words, &mut self.summary, i);
+        if self.max == Some(i) {
+            let end = i / T::width() as usize + 1;
+            self.max = greatest_within(&self.words, &self.summary, end);
         }
         was_present
     }
@@ -185,7 +199,7 @@ impl<T: ScalarBitSetStorage> CompoundBitSet<T> {
         ensures members { IfSome result (λ x. self.new.members ≡ fin_set.remove self.old.members x) }
         ensures words { self.new.words ≡ self.old.words }
     {
-        let max = self.max()?;
+        let max = self.max?;
         self.remove(max);
         Some(max)
     }
@@ -199,6 +213,7 @@ impl<T: ScalarBitSetStorage> CompoundBitSet<T> {
     {
         self.words.clear();
         self.summary.clear();
+        self.max = None;
     }
 
     /// Whether `i` is a member: `i` may be any number.
@@ -220,7 +235,30 @@ impl<T: ScalarBitSetStorage> CompoundBitSet<T> {
         ensures member { IfSome result (λ x. fin_set.contains self.now.members x ≡ true) }
         ensures greatest { IfSome result (λ x. (i : ℕ) → fin_set.contains self.now.members i ≡ true → i ≤ x) }
     {
-        self.last(self.capacity())
+        self.max
+    }
+
+    /// How many members there are: the words that have a member are counted, each at once.
+    ///
+    /// Port of `CompoundBitSet::len`.
+    pub fn len(&self) -> usize
+        ensures len { result ≡ fin_set.len self.now.members }
+        ensures few { result ≤ 4294967296 }
+    {
+        let mut count = 0;
+        for k in self.filled() {
+            count += self.words.iter_word(k).count_left();
+        }
+        count
+    }
+
+    /// Whether there is no member.
+    ///
+    /// Port of `CompoundBitSet::is_empty`.
+    pub fn is_empty(&self) -> bool
+        ensures empty { IsTrue result ↔ (self.now.members ≡ fin_set.empty) }
+    {
+        self.max.is_none()
     }
 
     /// How many numbers there is room for: an `insert` of a number below is never refused. Each member is below.
@@ -232,6 +270,19 @@ impl<T: ScalarBitSetStorage> CompoundBitSet<T> {
         ensures numbers { (i : ℕ) → fin_set.contains self.now.members i ≡ true → i ≤ 4294967295 }
     {
         self.words.capacity()
+    }
+
+    /// A walk over the members, rising, each once. It reads the summary words up to that of the greatest member, and
+    /// each word that has a member once.
+    ///
+    /// Port of `CompoundBitSet::iter`.
+    pub fn iter(&self) -> Iter<'_, T>
+        ensures members { result ≡ rising self.now.members }
+        ensures each { fin_set.from_list result ≡ self.now.members }
+        ensures once { IsStrictlyIncreasing result }
+        ensures few { length result ≤ 4294967296 }
+    {
+        Iter::new(&self.words, self.filled())
     }
 
     /// The words from word 0 to that of the greatest member, and none where there is no member. Each is a set of the
@@ -254,7 +305,7 @@ impl<T: ScalarBitSetStorage> CompoundBitSet<T> {
         steps: &mut Steps<L>,
     ) -> Result<TryVec<usize>, OutOfMemory>
         ensures members { IfOk result (λ list. list.items ≡ rising self.now.members) }
-        ensures looks { steps.new ≤ steps.old + summary_count T.width self.now.words + fin_set.len (filled_words T.width self.now.members) }
+        ensures looks { steps.new ≤ steps.old + div_ceil self.now.words T.width + fin_set.len (filled_words T.width self.now.members) }
     {
         let mut list = TryVec::new(alloc);
         let blocks = self.summary.count();
@@ -299,54 +350,25 @@ impl<T: ScalarBitSetStorage> CompoundBitSet<T> {
         ensures words { self.new.words ≡ self.old.words }
     {
         self.summary.insert(i / T::width() as usize);
+        self.max = Some(greatest_with(self.max, i));
         self.words.insert(i)
     }
 
-    /// The least member that is at least `at`. It looks at one word, then at summary words, then at one more word.
-    pub(crate) fn next(&self, at: usize) -> Option<usize>
-        ensures next { NextFrom self.now.members at result }
-        ensures number { IfSome result (λ x. x ≤ 4294967295) }
-        ensures within { IfSome result (λ x. x < capacity_of T.width self.now) }
+    // A walk over the numbers of the words that have a member.
+    fn filled(&self) -> StoreIter<'_, T>
+        ensures { result ≡ rising (filled_words T.width self.now.members) }
     {
-        let width = T::width() as usize;
-        let word = at / width;
-        if word >= self.words.count() {
-            return None;
-        }
-        if let Some(x) = self.words.next_in_word(word, (at % width) as u8) {
-            return Some(x);
-        }
-        match self.summary.next(word + 1) {
-            Some(k) => self.words.next_in_word(k, 0),
-            None => None,
-        }
-    }
-
-    /// The greatest member below `end`, likewise.
-    fn last(&self, end: usize) -> Option<usize>
-        ensures { LastBefore self.now.members end result }
-    {
-        let width = T::width() as usize;
-        let word = end / width;
-        if word < self.words.count() {
-            if let Some(x) = self.words.last_in_word(word, (end % width) as u8) {
-                return Some(x);
-            }
-        }
-        match self.summary.last(word) {
-            Some(k) => self.words.last_in_word(k, T::width()),
-            None => None,
-        }
+        self.summary
+            .iter(self.words_in_use().div_ceil(T::width() as usize))
     }
 
     // How many words there are up to that of the greatest member.
     fn words_in_use(&self) -> usize
         ensures within { result ≤ self.now.words }
-        ensures reach { (i : ℕ) → fin_set.contains self.now.members i ≡ true → i < result * T.width }
+        ensures reach { EndsBefore T.width self.now.members result }
         ensures last { (k : ℕ) → k + 1 ≡ result → IsWordEmpty T.width self.now.members k → ⊥ }
     {
-        let _ = &self.words;
-        match self.max() {
+        match self.max {
             Some(max) => max / T::width() as usize + 1,
             None => 0,
         }
@@ -359,16 +381,91 @@ impl<T: ScalarBitSetStorage> CompoundBitSet<T> {
         list: &mut TryVec<usize>,
         steps: &mut Steps<L>,
     ) -> Result<(), OutOfMemory>
-        requires { s < summary_count T.width self.now.words }
+        requires { s < div_ceil self.now.words T.width }
         ensures members { OnOk result (list.new.items ≡ list.old.items ++ block_members T.width self.now.members s) }
         ensures looks { steps.new ≤ steps.old + 1 + length (block_words T.width self.now.members s) }
     {
-        let start = self.summary.start(s);
-        let mut block = self.summary.read(s, steps);
-        while let Some(place) = block.pop_min() {
-            self.words
-                .push_members(start + place as usize, list, steps)?;
+        for k in self.summary.read(s, steps) {
+            self.push_word(k, list, steps)?;
         }
         Ok(())
+    }
+
+    // Puts the members of word `k` at the end of `list`: one look.
+    fn push_word<L: Ledger>(
+        &self,
+        k: usize,
+        list: &mut TryVec<usize>,
+        steps: &mut Steps<L>,
+    ) -> Result<(), OutOfMemory>
+        requires { k < self.now.words }
+        ensures members { OnOk result (list.new.items ≡ list.old.items ++ word_members T.width self.now.members k) }
+        ensures looks { steps.new ≡ steps.old + 1 }
+    {
+        for i in self.words.read(k, steps) {
+            list.push(i)?;
+        }
+        Ok(())
+    }
+}
+
+// Takes `i` out of `words`, and its word out of `summary` where that is empty then. Answers whether `i` was there.
+fn remove_from<T: ScalarBitSetStorage>(
+    words: &mut Store<T>,
+    summary: &mut Store<T>,
+    i: usize,
+) -> bool
+    requires { Summarizes T.width words.old summary.old }
+    ensures present { result ≡ fin_set.contains words.old.members i }
+    ensures members { words.new.members ≡ fin_set.remove words.old.members i }
+    ensures count { words.new.count ≡ words.old.count }
+    ensures summary { Summarizes T.width words.new summary.new }
+{
+    let was_present = words.remove(i);
+    let word = i / T::width() as usize;
+    if words.is_word_empty(word) {
+        summary.remove(word);
+    }
+    was_present
+}
+
+// The greatest member once `i` is put into a set whose greatest member is `max`.
+fn greatest_with(max: Option<usize>, i: usize) -> usize
+    ensures { (s : fin_set.FinSet nat_cmp) → IsMax s max → IsGreatest (fin_set.insert s i) result }
+{
+    match max {
+        Some(max) => max.max(i),
+        None => i,
+    }
+}
+
+// The greatest member of `words`, where only the first `end` words have members. It looks at one summary word after the
+// other, from that of the last of these words downwards, and then at one word.
+fn greatest_within<T: ScalarBitSetStorage>(
+    words: &Store<T>,
+    summary: &Store<T>,
+    end: usize,
+) -> Option<usize>
+    requires summary { Summarizes T.width words.now summary.now }
+    requires within { end ≤ words.now.count }
+    requires none_after { EndsBefore T.width words.now.members end }
+    ensures { IsMax words.now.members result }
+{
+    match summary.max_within(end.div_ceil(T::width() as usize)) {
+        Some(k) => words.max_of_word(k),
+        None => None,
+    }
+}
+
+/// The members, rising. Port of `impl IntoIterator for &CompoundBitSet`.
+impl<'a, T: ScalarBitSetStorage> IntoIterator for &'a CompoundBitSet<T> {
+    type Item = usize;
+
+    type IntoIter = Iter<'a, T>;
+
+    ghost into_iter_gives = { λ s it. it ≡ rising s.now.members };
+
+    fn into_iter(self) -> Iter<'a, T> {
+        self.iter()
     }
 }

@@ -1,12 +1,15 @@
-//! A set in words, over the scalar sets' contracts.
-ghost use Rattle.std.specs.Prelude.{◌≡◌, ◌+◌, ◌*◌, ◌/◌, ◌<◌, ◌≤◌, ◌↔◌, ◌++◌, ℕ, not, true, false, length};
-ghost use Rattle.std.specs.Prelude.{map, IsTrue, IsOk, OnOk, IfOk};
+//! The plain set in words, over the scalar sets' contracts. A set has two of these: one for its members, and one, its
+//! summary, for the numbers of the words that have a member.
+ghost use Rattle.std.specs.Prelude.{◌≡◌, ◌+◌, ◌*◌, ◌<◌, ◌≤◌, ◌↔◌, ◌++◌, ℕ, not, true, length, map};
+ghost use Rattle.std.specs.Prelude.{IsTrue, IsOk, OnOk, OnErr, IfOk};
 ghost use Rattle.std.specs.FinSet as fin_set;
-ghost use Rattle.wic_bitset.specs.Words.{most_words, IsWordOf, IsWordEmpty};
-ghost use Rattle.wic_bitset.specs.Rising.{word_members};
-ghost use Rattle.wic_bitset.specs.Walk.{NextFrom, LastBefore, NextInWord, LastInWord, IsRestFrom, IsPartBelow, AreFirstWords};
+ghost use Rattle.wic_bitset.specs.Greatest.{IsMax};
+ghost use Rattle.wic_bitset.specs.Rising.{members_between, word_members};
+ghost use Rattle.wic_bitset.specs.Words.{most_words, greatest_start, AreFirstWords, EndsBefore, IsMaxOfWord, IsWordEmpty, IsWordOf};
 
 use crate::steps::Steps;
+use crate::store_iter::StoreIter;
+use crate::word_iter::WordIter;
 use std::alloc::Global;
 use std::marker::Model;
 use std::sync::ledger::Ledger;
@@ -14,27 +17,30 @@ use wic_base::OutOfMemory;
 use wic_scalar::{ScalarBitSet, ScalarBitSetStorage};
 use wic_vec::TryVec;
 
-/// A set of numbers in words, with no summary.
+/// A set of numbers in words: place `j` of word `k` stands for the number `k * width + j`.
+///
+/// A contract sees its members, the count of its words, and its room: how many words it may have with no request for
+/// memory.
 #[derive(Drop)]
 pub struct Store<T: ScalarBitSetStorage> {
     words: TryVec<ScalarBitSet<T>>,
 }
 
 impl<T: ScalarBitSetStorage> Model for Store<T> {
-    ghost use Rattle.std.specs.Prelude.{length, map};
-    ghost use Rattle.wic_bitset.specs.Words.{Words, words_code, compound_set, Holds};
+    ghost use Rattle.std.specs.Prelude.{◌≤◌, length, map};
+    ghost use Rattle.wic_bitset.specs.Words.{Words, words_code, set_of_words, most_words};
 
     ghost Value = { Words };
 
     ghost coded = { words_code };
 
     ghost view = { λ c. record {
-      members = compound_set T.width (map (λ s. T.number s.0) c.words.items);
+      members = set_of_words T.width (map (λ s. T.number s.0) c.words.items);
       count = length c.words.items;
       room = c.words.capacity;
     } };
 
-    ghost invariant = { λ c. Holds T.width (length c.words.items) };
+    ghost invariant = { λ c. length c.words.items ≤ most_words };
 }
 
 impl<T: ScalarBitSetStorage> Store<T> {
@@ -43,7 +49,6 @@ impl<T: ScalarBitSetStorage> Store<T> {
         ensures members { result.members ≡ fin_set.empty }
         ensures count { result.count ≡ 0 }
     {
-        let _ = T::width();
         Store {
             words: TryVec::new(alloc),
         }
@@ -66,6 +71,7 @@ impl<T: ScalarBitSetStorage> Store<T> {
         ensures count { self.new.count ≡ self.old.count }
         ensures room { OnOk result (n ≤ self.new.room) }
         ensures never_refused_within { n ≤ self.old.room → IsOk result }
+        ensures refusal_leaves { OnErr result (self.new ≡ self.old) }
     {
         self.words.reserve(n - self.words.len())
     }
@@ -99,9 +105,17 @@ impl<T: ScalarBitSetStorage> Store<T> {
     pub fn count(&self) -> usize
         ensures count { result ≡ self.now.count }
         ensures within { result ≤ most_words }
-        ensures below { (i : ℕ) → fin_set.contains self.now.members i ≡ true → i < self.now.count * T.width }
+        ensures holds_all { EndsBefore T.width self.now.members result }
     {
         self.words.len()
+    }
+
+    /// How many numbers there is room for: each member is below.
+    pub fn capacity(&self) -> usize
+        ensures capacity { result ≡ self.now.count * T.width }
+        ensures holds_all { (i : ℕ) → fin_set.contains self.now.members i ≡ true → i < result }
+    {
+        self.words.len() * T::width() as usize
     }
 
     /// Whether `i` is a member: any number.
@@ -143,54 +157,7 @@ impl<T: ScalarBitSetStorage> Store<T> {
         }
     }
 
-    /// Word `k`, which is below the count.
-    pub fn word(&self, k: usize) -> ScalarBitSet<T>
-        requires { k < self.now.count }
-        ensures { IsWordOf T.width self.now.members k (T.number result.0) }
-    {
-        self.words[k]
-    }
-
-    /// The words before word `n`.
-    pub fn first_words(&self, n: usize) -> &[ScalarBitSet<T>]
-        requires { n ≤ self.now.count }
-        ensures count { length result.now ≡ n }
-        ensures words { AreFirstWords T.width self.now.members (map (λ s. T.number s.0) result.now) }
-    {
-        let words = self.words.as_slice();
-        &words[..n]
-    }
-
-    /// Word `k`, which is below the count: one look. A walk that counts has no other way to a word.
-    pub fn read<L: Ledger>(&self, k: usize, steps: &mut Steps<L>) -> ScalarBitSet<T>
-        requires { k < self.now.count }
-        ensures word { IsWordOf T.width self.now.members k (T.number result.0) }
-        ensures looks { steps.new ≡ steps.old + 1 }
-    {
-        steps.tick();
-        self.word(k)
-    }
-
-    /// Puts the members of word `k` at the end of `list`, rising: one look.
-    pub fn push_members<L: Ledger>(
-        &self,
-        k: usize,
-        list: &mut TryVec<usize>,
-        steps: &mut Steps<L>,
-    ) -> Result<(), OutOfMemory>
-        requires { k < self.now.count }
-        ensures members { OnOk result (list.new.items ≡ list.old.items ++ word_members T.width self.now.members k) }
-        ensures looks { steps.new ≡ steps.old + 1 }
-    {
-        let start = self.start(k);
-        let mut word = self.read(k, steps);
-        while let Some(place) = word.pop_min() {
-            list.push(start + place as usize)?;
-        }
-        Ok(())
-    }
-
-    /// Whether no member stands in word `k`.
+    /// Whether no member stands in word `k`: any number.
     pub fn is_word_empty(&self, k: usize) -> bool
         ensures { IsTrue result ↔ IsWordEmpty T.width self.now.members k }
     {
@@ -200,109 +167,86 @@ impl<T: ScalarBitSetStorage> Store<T> {
         }
     }
 
-    /// The first number of word `k`.
-    pub fn start(&self, k: usize) -> usize
+    /// The greatest member in word `k`, or `None` exactly where it is empty.
+    pub fn max_of_word(&self, k: usize) -> Option<usize>
+        requires { k < self.now.count }
+        ensures { IsMaxOfWord T.width self.now.members k result }
+    {
+        let start = self.start(k);
+        match self.word(k).max() {
+            Some(place) => Some(start + place as usize),
+            None => None,
+        }
+    }
+
+    /// The greatest member, where only the first `end` words have members. It looks at the last of these words first,
+    /// and at no word below that of the answer.
+    pub fn max_within(&self, end: usize) -> Option<usize>
+        requires within { end ≤ self.now.count }
+        requires none_after { EndsBefore T.width self.now.members end }
+        ensures { IsMax self.now.members result }
+    {
+        let mut k = end;
+        while k > 0 {
+            k -= 1;
+            if let Some(max) = self.max_of_word(k) {
+                return Some(max);
+            }
+        }
+        None
+    }
+
+    /// The first `n` words.
+    pub fn first_words(&self, n: usize) -> &[ScalarBitSet<T>]
+        requires { n ≤ self.now.count }
+        ensures count { length result.now ≡ n }
+        ensures words { AreFirstWords T.width self.now.members (map (λ s. T.number s.0) result.now) }
+    {
+        let words = self.words.as_slice();
+        &words[..n]
+    }
+
+    /// A walk over the members in word `k`.
+    pub fn iter_word(&self, k: usize) -> WordIter<T>
+        requires { k < self.now.count }
+        ensures members { result ≡ word_members T.width self.now.members k }
+    {
+        WordIter::new(self.start(k), self.word(k))
+    }
+
+    /// A walk over the members in word `k`: one look. A walk that counts has no other way to a word.
+    pub fn read<L: Ledger>(&self, k: usize, steps: &mut Steps<L>) -> WordIter<T>
+        requires { k < self.now.count }
+        ensures members { result ≡ word_members T.width self.now.members k }
+        ensures looks { steps.new ≡ steps.old + 1 }
+    {
+        steps.tick();
+        self.iter_word(k)
+    }
+
+    /// A walk over the members in the first `end` words: each word is read once.
+    pub fn iter(&self, end: usize) -> StoreIter<'_, T>
+        requires { end ≤ self.now.count }
+        ensures members { result ≡ members_between self.now.members 0 (end * T.width) }
+    {
+        StoreIter::new(self, end)
+    }
+
+    // Word `k`.
+    fn word(&self, k: usize) -> ScalarBitSet<T>
+        requires { k < self.now.count }
+        ensures { IsWordOf T.width self.now.members k (T.number result.0) }
+    {
+        self.words[k]
+    }
+
+    // The first number of word `k`.
+    fn start(&self, k: usize) -> usize
         requires { k < self.now.count }
         ensures start { result ≡ k * T.width }
-        ensures small { result ≤ 2190433321980 }
+        ensures small { result ≤ greatest_start }
     {
         let _ = &self.words;
         k * T::width() as usize
     }
-
-    /// How many numbers there is room for.
-    pub fn capacity(&self) -> usize
-        ensures capacity { result ≡ self.now.count * T.width }
-        ensures below { (i : ℕ) → fin_set.contains self.now.members i ≡ true → i < result }
-    {
-        let _ = &self.words;
-        self.count() * T::width() as usize
-    }
-
-    /// The least member of word `k` at the digit `from` or above.
-    pub fn next_in_word(&self, k: usize, from: u8) -> Option<usize>
-        requires within { k < self.now.count }
-        requires digit { from ≤ T.width }
-        ensures { NextInWord T.width self.now.members k from result }
-    {
-        let word = self.word(k);
-        let start = self.start(k);
-        match rest_from(word, from).min() {
-            Some(place) => Some(start + place as usize),
-            None => None,
-        }
-    }
-
-    /// The greatest member of word `k` below the digit `end`.
-    pub fn last_in_word(&self, k: usize, end: u8) -> Option<usize>
-        requires within { k < self.now.count }
-        requires digit { end ≤ T.width }
-        ensures { LastInWord T.width self.now.members k end result }
-    {
-        let word = self.word(k);
-        let start = self.start(k);
-        match part_below(word, end).max() {
-            Some(place) => Some(start + place as usize),
-            None => None,
-        }
-    }
-
-    /// The least member that is at least `at`.
-    pub fn next(&self, at: usize) -> Option<usize>
-        ensures { NextFrom self.now.members at result }
-    {
-        let width = T::width() as usize;
-        let word = at / width;
-        let count = self.count();
-        if word >= count {
-            return None;
-        }
-        if let Some(x) = self.next_in_word(word, (at % width) as u8) {
-            return Some(x);
-        }
-        for k in word + 1..count {
-            if let Some(x) = self.next_in_word(k, 0) {
-                return Some(x);
-            }
-        }
-        None
-    }
-
-    /// The greatest member below `end`.
-    pub fn last(&self, end: usize) -> Option<usize>
-        ensures { LastBefore self.now.members end result }
-    {
-        let width = T::width() as usize;
-        let word = end / width;
-        let count = self.count();
-        if word < count {
-            if let Some(x) = self.last_in_word(word, (end % width) as u8) {
-                return Some(x);
-            }
-        }
-        let mut k = word.min(count);
-        while k > 0 {
-            k -= 1;
-            if let Some(x) = self.last_in_word(k, T::width()) {
-                return Some(x);
-            }
-        }
-        None
-    }
-}
-
-// The members of a word from a place on.
-fn rest_from<T: ScalarBitSetStorage>(word: ScalarBitSet<T>, from: u8) -> ScalarBitSet<T>
-    requires { from ≤ T.width }
-    ensures { IsRestFrom T.width (T.number word.0) from (T.number result.0) }
-{
-    ScalarBitSet(word.0.bit_and(T::below(from).bit_not()))
-}
-
-// The members of a word below a place.
-fn part_below<T: ScalarBitSetStorage>(word: ScalarBitSet<T>, end: u8) -> ScalarBitSet<T>
-    requires { end ≤ T.width }
-    ensures { IsPartBelow T.width (T.number word.0) end (T.number result.0) }
-{
-    ScalarBitSet(word.0.bit_and(T::below(end)))
 }

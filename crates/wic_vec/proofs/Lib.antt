@@ -1,3 +1,5 @@
+pub mod ClosureRuns
+pub mod Copies
 pub mod Digits
 pub mod DrainRuns
 pub mod Moved

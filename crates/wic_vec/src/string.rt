@@ -1,7 +1,9 @@
 //! A text whose growth can be refused.
-ghost use Rattle.std.specs.Prelude.{◌≡◌, ◌+◌, ◌<◌, ◌≤◌, ◌==◌, [], ◌++◌, length, encode_utf8, string_bytes, IsOk, IfOk, OnOk, OnErr};
+ghost use Rattle.std.specs.Prelude.{◌≡◌, ◌+◌, ◌<◌, ◌≤◌, ◌==◌, [], ◌++◌, length};
+ghost use Rattle.std.specs.Prelude.{encode_utf8, string_bytes, string_capacity, IsOk, IfOk, OnOk, OnErr};
 ghost use Rattle.wic_vec.specs.TryString.{HasRoomFor};
 
+mod compare;
 mod decimal;
 
 use std::alloc::Global;
@@ -82,6 +84,17 @@ impl TryString {
         TryString { inner: s, capacity }
     }
 
+    /// The same text as a `String`, in the memory of this one.
+    ///
+    /// A port of `From<TryString>` for `String`.
+    pub fn into_string(self) -> String
+        ensures text { string_bytes result ≡ self.bytes }
+        ensures capacity { self.capacity ≤ string_capacity result }
+    {
+        let TryString { inner, capacity: _ } = self;
+        inner
+    }
+
     /// Makes room for `additional` more bytes than there are. The text stays, and so does the value as a whole
     /// where it has that room. After a refusal it is as before.
     ///
@@ -105,6 +118,44 @@ impl TryString {
             }
             Err(_) => Err(OutOfMemory::new(self.inner.len().saturating_add(additional))),
         }
+    }
+
+    /// Makes room as `reserve` does, and asks the allocator for no more than that.
+    ///
+    /// A port of `TryString::reserve_exact`.
+    pub fn reserve_exact(&mut self, additional: usize) -> Result<(), OutOfMemory>
+        ensures same_text { self.new.bytes ≡ self.old.bytes }
+        ensures room { OnOk result (HasRoomFor self.new additional) }
+        ensures never_refused_within { HasRoomFor self.old additional → IsOk result }
+        ensures refused_only_beyond { OnErr result (self.old.capacity < length self.old.bytes + additional) }
+        ensures unchanged_within { HasRoomFor self.old additional → self.new ≡ self.old }
+        ensures capacity_never_falls { self.old.capacity ≤ self.new.capacity }
+        ensures refusal_leaves { OnErr result (self.new ≡ self.old) }
+    {
+        if additional <= self.capacity - self.inner.len() {
+            return Ok(());
+        }
+        match self.inner.reserve_exact(additional) {
+            Ok(()) => {
+                self.capacity = self.inner.capacity();
+                Ok(())
+            }
+            Err(_) => Err(OutOfMemory::new(self.inner.len().saturating_add(additional))),
+        }
+    }
+
+    /// Gives back the memory that the text doesn't lie in, and lowers the capacity to the length. It is never refused:
+    /// where the allocator has no smaller block, the text stays in the one it has.
+    ///
+    /// A port of `TryString::shrink_to_fit`.
+    pub fn shrink_to_fit(&mut self) -> Result<(), OutOfMemory>
+        ensures same_text { self.new.bytes ≡ self.old.bytes }
+        ensures capacity { self.new.capacity ≡ length self.new.bytes }
+        ensures never_refused { IsOk result }
+    {
+        self.inner.shrink_to_fit();
+        self.capacity = self.inner.len();
+        Ok(())
     }
 
     /// Puts the character `c` at the end. It is refused only where the capacity is below the new length: then the

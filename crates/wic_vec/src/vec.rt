@@ -1,11 +1,15 @@
 //! A vector whose growth can be refused.
-ghost use Rattle.std.specs.Prelude.{◌≡◌, ◌+◌, ◌<◌, ◌≤◌, ◌↔◌, ◌==◌, [], ◌∷◌, ◌++◌, length, take, slice_get, Some, IsOk, IsSome, IfOk, IfSome, IfNone, OnOk, OnErr};
+ghost use Rattle.std.specs.Prelude.{◌≡◌, ◌+◌, ◌<◌, ◌≤◌, ◌↔◌, ◌==◌, [], ◌∷◌, ◌++◌, length, take};
+ghost use Rattle.std.specs.Prelude.{slice_get, vec_capacity, Some, IsOk, IsSome, IfOk, IfSome, IfNone, OnOk, OnErr};
 ghost use Rattle.std.specs.Option.{option_copied};
 ghost use Rattle.std.specs.Borrow.{sem};
 ghost use Rattle.wic_vec.specs.TryVec.{HasRoomFor};
 
+mod compare;
 mod drain;
 mod iter;
+mod resize;
+mod retain;
 
 pub use drain::Drain;
 use std::alloc::Global;
@@ -67,6 +71,28 @@ impl<T> TryVec<T> {
         }
     }
 
+    /// The vector of the elements of `v`, in its memory.
+    ///
+    /// A port of `From<Vec<T>>` for `TryVec`.
+    pub fn from_vec(v: Vec<T>) -> TryVec<T>
+        ensures items { result.items ≡ v.items }
+        ensures capacity { result.capacity ≡ vec_capacity v }
+    {
+        let capacity = v.capacity();
+        TryVec { inner: v, capacity }
+    }
+
+    /// The `Vec` of the elements, in the memory of this vector.
+    ///
+    /// A port of `From<TryVec<T>>` for `Vec`.
+    pub fn into_vec(self) -> Vec<T>
+        ensures items { result.items ≡ self.items }
+        ensures capacity { self.capacity ≤ vec_capacity result }
+    {
+        let TryVec { inner, capacity: _ } = self;
+        inner
+    }
+
     /// Makes room for `additional` more elements than there are. Elements stay, and so does the vector as a whole
     /// where it has that room. After a refusal it is as before.
     ///
@@ -114,6 +140,20 @@ impl<T> TryVec<T> {
             }
             Err(_) => Err(wanting(self.inner.len(), additional)),
         }
+    }
+
+    /// Gives back the memory that no element lies in, and lowers the capacity to the length. It is never refused: where
+    /// the allocator has no smaller block, the elements stay in the one they have.
+    ///
+    /// A port of `TryVec::shrink_to_fit`.
+    pub fn shrink_to_fit(&mut self) -> Result<(), OutOfMemory>
+        ensures same_items { self.new.items ≡ self.old.items }
+        ensures capacity { self.new.capacity ≡ length self.new.items }
+        ensures never_refused { IsOk result }
+    {
+        self.inner.shrink_to_fit();
+        self.capacity = self.inner.len();
+        Ok(())
     }
 
     /// Puts `value` at the end. It is refused only where the length is the capacity: then `value` is dropped and

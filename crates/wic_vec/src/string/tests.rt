@@ -1,4 +1,7 @@
 use super::*;
+use crate::TryClone;
+use std::cmp::Ordering;
+use std::hash::{DefaultHasher, Hash, Hasher};
 use std::test::Fail;
 
 #[test]
@@ -34,5 +37,37 @@ fn numbers_are_written_in_decimal(rt: HostRuntime) -> Result<(), Fail> {
         text.push(' ')?;
     }
     assert_eq!(rt; text.as_str(), "0 7 10 4096 18446744073709551615 ");
+    Ok(())
+}
+
+#[test]
+fn room_of_a_text_is_made_and_given_back(rt: HostRuntime) -> Result<(), Fail> {
+    let alloc = rt.alloc();
+    let mut text = TryString::with_capacity(alloc, 8)?;
+    text.reserve_exact(30)?;
+    assert!(rt; text.capacity() >= 30 && text.is_empty());
+    text.shrink_to_fit()?;
+    assert!(rt; text.is_empty());
+    assert_eq!(rt; text.try_clone(alloc)?.as_str(), "");
+    text.push_str("hé")?;
+    assert_eq!(rt; text.try_clone(alloc)?.into_string().as_str(), "hé");
+    Ok(())
+}
+
+#[test]
+fn texts_compare_hash_and_print_by_their_characters(rt: HostRuntime) -> Result<(), Fail> {
+    let alloc = rt.alloc();
+    let (long, short) = (
+        TryString::try_from_str(alloc, "aaa")?,
+        TryString::try_from_str(alloc, "b")?,
+    );
+    assert!(rt; long < short && long != short && short == short.try_clone(alloc)?);
+    assert_eq!(rt; long.partial_cmp(&short), Some(Ordering::Less));
+    let shown = format!(in alloc; "{short} {short:?} {short:>3}")?;
+    assert_eq!(rt; shown.as_str(), "b \"b\"   b");
+    let (mut left, mut right) = (DefaultHasher::new(), DefaultHasher::new());
+    long.hash(&mut left);
+    "aaa".hash(&mut right);
+    assert_eq!(rt; left.finish(), right.finish());
     Ok(())
 }

@@ -3,6 +3,8 @@ ghost use Rattle.std.specs.List.{All, remove_range};
 
 use super::*;
 use std::alloc::AllocError;
+use std::cmp::Ordering;
+use std::hash::{DefaultHasher, Hash, Hasher};
 use std::test::Fail;
 
 // A vector of these numbers.
@@ -218,5 +220,112 @@ fn pushes_within_the_room_are_kept_in_order(rt: HostRuntime) -> Result<(), Fail>
     assert_eq!(rt; v.as_slice(), [1, 2].as_slice());
     v.reserve(10)?;
     assert!(rt; v.capacity() >= 12);
+    Ok(())
+}
+
+#[test]
+fn vectors_are_filled_with_copies(rt: HostRuntime) -> Result<(), Fail> {
+    let alloc = rt.alloc();
+    for (len, items) in [(3, [7, 7, 7].as_slice()), (1, [7].as_slice())] {
+        assert!(rt; len >= 1);
+        assert_eq!(rt; TryVec::from_elem(alloc, 7u32, len)?.as_slice(), items);
+    }
+    let mut v = of(alloc, &[1, 2, 3])?;
+    for (len, value, items) in [
+        (5, 9, [1, 2, 3, 9, 9].as_slice()),
+        (5, 4, [1, 2, 3, 9, 9].as_slice()),
+        (2, 9, [1, 2].as_slice()),
+    ] {
+        v.resize(len, value)?;
+        assert_eq!(rt; v.as_slice(), items, "a length of {len}");
+    }
+    assert_eq!(rt; TryVec::from_clones(alloc, v.as_slice())?, v);
+    Ok(())
+}
+
+#[test]
+fn a_closure_fills_each_new_place_once(rt: HostRuntime) -> Result<(), Fail> {
+    let mut v = of(rt.alloc(), &[1])?;
+    let mut next = 10u32;
+    v.resize_with(4, || {
+        let answer = next;
+        next = next.wrapping_add(1);
+        answer
+    })?;
+    assert_eq!(rt; v.as_slice(), [1, 10, 11, 12].as_slice());
+    assert_eq!(rt; next, 13);
+    let mut calls = 0u32;
+    v.resize_with(0, || {
+        calls = calls.wrapping_add(1);
+        calls
+    })?;
+    assert!(rt; v.is_empty());
+    assert_eq!(rt; calls, 0);
+    Ok(())
+}
+
+#[test]
+fn closures_tell_what_stays(rt: HostRuntime) -> Result<(), Fail> {
+    let alloc = rt.alloc();
+    let mut v = of(alloc, &[1, 2, 3, 4, 5, 6])?;
+    v.retain(|number| *number % 2 == 0);
+    assert_eq!(rt; v.as_slice(), [2, 4, 6].as_slice());
+    let mut v = of(alloc, &[1, 2, 3])?;
+    v.retain_mut(|number| {
+        *number = number.wrapping_add(10);
+        *number % 2 == 1
+    });
+    assert_eq!(rt; v.as_slice(), [11, 13].as_slice());
+    let mut v = of(alloc, &[5, 6, 7, 8])?;
+    let mut calls = 0u32;
+    v.retain(|_| {
+        calls = calls.wrapping_add(1);
+        calls == 1 || calls == 3
+    });
+    assert_eq!(rt; v.as_slice(), [5, 7].as_slice());
+    assert_eq!(rt; calls, 4);
+    Ok(())
+}
+
+#[test]
+fn room_is_made_and_given_back(rt: HostRuntime) -> Result<(), Fail> {
+    let mut v = TryVec::<u8>::new(rt.alloc());
+    v.reserve(10)?;
+    assert!(rt; v.capacity() >= 10);
+    v.reserve_exact(20)?;
+    assert!(rt; v.capacity() >= 20);
+    v.shrink_to_fit()?;
+    assert!(rt; v.is_empty());
+    let v = TryVec::from_vec(v.into_vec());
+    assert!(rt; v.is_empty());
+    Ok(())
+}
+
+#[test]
+fn items_of_no_size_are_counted(rt: HostRuntime) -> Result<(), Fail> {
+    let mut v = TryVec::<()>::new(rt.alloc());
+    for _ in 0..100000 {
+        v.push(())?;
+    }
+    assert_eq!(rt; v.len(), 100000);
+    Ok(())
+}
+
+#[test]
+fn vectors_compare_and_hash_as_lists(rt: HostRuntime) -> Result<(), Fail> {
+    let alloc = rt.alloc();
+    let one_two = of(alloc, &[1, 2])?;
+    assert!(rt; one_two < of(alloc, &[1, 3])? && one_two > of(alloc, &[1])?);
+    assert!(rt; one_two != of(alloc, &[2, 1])? && one_two == of(alloc, &[1, 2])?);
+    assert_eq!(rt;
+        one_two.partial_cmp(&of(alloc, &[1, 2, 0])?),
+        Some(Ordering::Less)
+    );
+    let text = format!(in alloc; "{one_two:?}")?;
+    assert_eq!(rt; text.as_str(), "[1, 2]");
+    let (mut left, mut right) = (DefaultHasher::new(), DefaultHasher::new());
+    one_two.hash(&mut left);
+    of(alloc, &[1, 2])?.into_vec().hash(&mut right);
+    assert_eq!(rt; left.finish(), right.finish());
     Ok(())
 }

@@ -4,8 +4,12 @@ use Rattle.batch_script.specs.Reading.{HasRead}
 use Rattle.batch_script.proofs.parse.parse.Given as goal
 
 abbrev pub invariant-loop-line : goal.invariant-loop-line
-invariant-loop-line l =
-    HasRead l.reading (take l.line_number (lines_of l.input)) × (drop l.line_number (lines_of l.input) ≡ lines_of l.rest) × (l.line_number + length l.rest ≤ length l.input) × (l.line_number ≤ length (lines_of l.input))
+invariant-loop-line l = record {
+  read : HasRead l.reading (take l.line_number (lines_of l.input));
+  left : drop l.line_number (lines_of l.input) ≡ lines_of l.rest;
+  bytes : l.line_number + length l.rest ≤ length l.input;
+  counted : l.line_number ≤ length (lines_of l.input);
+}
 
 abbrev pub decreases-loop-line : goal.decreases-loop-line
 decreases-loop-line l = length l.rest

@@ -11,6 +11,7 @@ loop-rest-preserved g c =
       (
         inv.1.0 ++ take count rest,
         inv.1.1 ∙ front-more inv.1.0 rest count,
-        λ held was. c.in_ok-count.ensures.bytes (held ++ inv.1.0) (inv.1.2 held was) ∙ ap Some (append_assoc held inv.1.0 (take count rest)),
+        λ held was. c.in_ok-count.ensures.bytes (held ++ inv.1.0) (inv.1.2 held was)
+            ∙ ap Some (append_assoc held inv.1.0 (take count rest)),
       ),
     )

@@ -1,13 +1,29 @@
-use Rattle.std.proofs.Common.{◌≡◌, Some, None}
+use Rattle.std.proofs.Common.{subst}
 use Rattle.std.proofs.lemmas.Result.{on_ok_weaker}
+use Rattle.batch_script.specs.Reading.{AreRead, begun_of, plain_items}
+use Rattle.batch_script.proofs.Readings.{stuck_with_none}
 use Rattle.batch_script.proofs.parse.Reading.take_line.Goals as goal
 
-pub returns-in-Some-clause-ok : goal.returns-in-Some-clause-ok
-returns-in-Some-clause-ok c =
-    let begun : c.args.self.now.begun ≡ Some c.in-Some.commands = cc in
-    on_ok_weaker c.take_in_batch.result (λ goes lines was. goes lines (rw begun at was)) c.take_in_batch.ensures.ok
+pub returns-in-None-clause-syntax : goal.returns-in-None-clause-syntax
+returns-in-None-clause-syntax c = λ refused lines was.
+    let self = c.args.self.now in
+    stuck_with_none (plain_items self.items.items) (begun_of self.has_begun self.commands.items) lines c.args.line.now was
+    c.in-None.ensures.none
 
-pub returns-in-None-clause-ok : goal.returns-in-None-clause-ok
-returns-in-None-clause-ok c =
-    let begun : c.args.self.now.begun ≡ None = cc in
-    on_ok_weaker c.take_outside.result (λ goes lines was. goes lines (rw begun at was)) c.take_outside.ensures.ok
+pub returns-then-self-clause-ok : goal.returns-then-self-clause-ok
+returns-then-self-clause-ok c =
+    let self = c.args.self.now in
+    on_ok_weaker c.take_in_batch.result
+    (λ goes lines was. goes lines c.args.line.now c.in-Some.ensures.some
+    (c.if-self.true, subst (λ begun. AreRead (plain_items self.items.items) (begun_of begun self.commands.items) lines) c.if-self.true
+        was))
+    c.take_in_batch.ensures.ok
+
+pub returns-else-self-clause-ok : goal.returns-else-self-clause-ok
+returns-else-self-clause-ok c =
+    let self = c.args.self.now in
+    on_ok_weaker c.take_outside.result
+    (λ goes lines was. goes lines c.args.line.now c.in-Some.ensures.some
+    (c.if-self.false, subst (λ begun. AreRead (plain_items self.items.items) (begun_of begun self.commands.items) lines) c.if-self.false
+        was))
+    c.take_outside.ensures.ok

@@ -1,19 +1,31 @@
-use Rattle.std.proofs.Common.{ℕ, ◌≡◌, ◌<◌, ◌≤◌, ◌*◌, true, length, sym, ap, ◌∙◌, subst, arith}
+use Rattle.std.proofs.Common.{ℕ, ◌≡◌, ◌<◌, ◌≤◌, length, sym, ap, ◌∙◌, subst, arith}
+use Rattle.std.specs.Prelude.{All}
 use Rattle.std.specs.Ordering.{nat_cmp}
+use Rattle.std.specs.List.{flat_map}
 use Rattle.std.specs.List.Sorted.{IsStrictlyIncreasing}
-use Rattle.std.specs.FinSet.{contains, from_list}
-use Rattle.wic_bitset.proofs.RisingFacts.{members_between-rising, length-rising-le, from_list-rising, IsStrictlyIncreasing-rising}
+use Rattle.std.specs.FinSet.{from_list}
+use Rattle.wic_bitset.specs.Rising.{rising, word_members}
+use Rattle.wic_bitset.specs.Summary.{filled_words}
+use Rattle.wic_bitset.proofs.ByWordFacts.{by_words}
+use Rattle.wic_bitset.proofs.RisingFacts.{from_list-rising, length-rising-le, IsStrictlyIncreasing-rising}
+use Rattle.wic_bitset.proofs.SummaryFacts.{All-filled}
 use Rattle.wic_bitset.proofs.set.CompoundBitSet.iter.Goals as goal
+
+pub new-requires : goal.new-requires
+new-requires g c =
+    let w = g.T.ScalarBitSetStorage.width in
+    subst (All (λ k. k < c.self.inside.words.count))
+    (sym (c.filled.ensures ∙ ap (λ v. rising (filled_words w v.members)) (sym c.self.view_is)))
+    (All-filled w _ _ c.self.invariant.0)
 
 pub returns-clause-members : goal.returns-clause-members
 returns-clause-members g c =
-    members_between-rising c.args.self.now.members (c.args.self.now.words * g.T.ScalarBitSetStorage.width)
-    (subst (λ n. (i : ℕ) → contains c.args.self.now.members i ≡ true → i < n) c.capacity.ensures.capacity c.capacity.ensures.holds_all)
-
-pub returns-clause-few : goal.returns-clause-few
-returns-clause-few g c =
-    subst (λ list. length list ≤ 4294967296) (sym (returns-clause-members g c))
-    (length-rising-le c.args.self.now.members 4294967296 (λ i has. let h = c.capacity.ensures.numbers i has in omega arith))
+    let w = g.T.ScalarBitSetStorage.width in
+    let s = c.args.self.now.members in
+    c.new.ensures
+    ∙ ap (λ v. flat_map (word_members w v.members) c.filled.result) c.self.view_is
+    ∙ ap (flat_map (word_members w s)) c.filled.ensures
+    ∙ by_words w s g.T.ScalarBitSetStorage.width_within.positive
 
 pub returns-clause-each : goal.returns-clause-each
 returns-clause-each g c = ap (from_list {R = nat_cmp}) (returns-clause-members g c) ∙ from_list-rising c.args.self.now.members
@@ -21,3 +33,9 @@ returns-clause-each g c = ap (from_list {R = nat_cmp}) (returns-clause-members g
 pub returns-clause-once : goal.returns-clause-once
 returns-clause-once g c =
     subst IsStrictlyIncreasing (sym (returns-clause-members g c)) (IsStrictlyIncreasing-rising c.args.self.now.members)
+
+pub returns-clause-few : goal.returns-clause-few
+returns-clause-few g c =
+    subst (λ list. length list ≤ 4294967296) (sym (returns-clause-members g c))
+    (subst (λ v. length (rising v.members) ≤ 4294967296) c.self.view_is
+    (length-rising-le c.self.inside.words.members 4294967296 (λ i has. let h = c.self.invariant.0.numbers i has in omega arith)))

@@ -1,9 +1,12 @@
-use Rattle.std.proofs.Common.{◌≡◌, ◌+◌, ◌≤◌, length}
-use Rattle.wic_bitset.specs.Rising.{rising}
+use Rattle.std.proofs.Common.{◌≡◌, ◌+◌, ◌++◌, ◌≤◌, ◌<◌, length}
+use Rattle.std.specs.Prelude.{All}
+use Rattle.std.specs.FinSet.{len}
+use Rattle.std.specs.List.{flat_map}
+use Rattle.wic_bitset.specs.Rising.{word_members}
 use Rattle.wic_bitset.proofs.set.CompoundBitSet.len.Given as goal
 
-abbrev pub invariant-loop-count : goal.invariant-loop-count
-invariant-loop-count g l = (l.count + length l.rest ≡ length (rising l.self.members)) × (l.count + length l.rest ≤ 4294967296)
-
-abbrev pub decreases-loop-count : goal.decreases-loop-count
-decreases-loop-count g l = length l.rest
+abbrev pub invariant-loop-k : goal.invariant-loop-k
+invariant-loop-k g l =
+    let w = g.T.ScalarBitSetStorage.width in
+    (l.count + length (flat_map (word_members w l.self.members) l.k-iterator) ≡ len l.self.members)
+    × ((len l.self.members ≤ 4294967296) × All (λ k. k < l.self.words) l.k-iterator)

@@ -1,5 +1,8 @@
-use Rattle.wic_bitset.proofs.WalkFacts.{none_before-empty}
+use Rattle.std.proofs.Common.{◌≡◌, ◌↔◌, IsNone, subst}
+use Rattle.std.specs.FinSet.{empty}
+use Rattle.wic_bitset.proofs.GreatestFacts.{max-none}
 use Rattle.wic_bitset.proofs.set.CompoundBitSet.max.Goals as goal
 
 pub returns-clause-none : goal.returns-clause-none
-returns-clause-none g c = none_before-empty c.args.self.now.members c.capacity.result c.last.result c.last.ensures c.capacity.ensures.holds_all
+returns-clause-none g c =
+    subst (λ v. IsNone c.self.inside.max ↔ (v.members ≡ empty)) c.self.view_is (max-none _ _ c.self.invariant.1)

@@ -1,23 +1,22 @@
-use Rattle.std.proofs.Common.{◌/◌, ap, subst, refl, ◌∙◌}
+use Rattle.std.proofs.Common.{◌≡◌, ◌/◌, ◌+◌, ap, sym, subst, ◌∙◌}
 use Rattle.std.specs.FinSet.{remove}
-use Rattle.std.proofs.lemmas.Bool.{iff_false}
-use Rattle.wic_bitset.specs.Words.{IsWordEmpty}
-use Rattle.wic_bitset.proofs.SummaryFacts.{Summarizes-emptied, Summarizes-kept}
+use Rattle.wic_bitset.specs.Greatest.{IsMax}
+use Rattle.wic_bitset.specs.Words.{EndsBefore}
+use Rattle.wic_bitset.proofs.GreatestFacts.{greatest-is, ends-remove_greatest, max-remove_other}
 use Rattle.wic_bitset.proofs.set.CompoundBitSet.remove.Goals as goal
 
-pub invariant_of-self : goal.invariant_of-self
-invariant_of-self g c =
+pub greatest_within-self-inside-requires-clause-none_after : goal.greatest_within-self-inside-requires-clause-none_after
+greatest_within-self-inside-requires-clause-none_after g c =
     let w = g.T.ScalarBitSetStorage.width in
-    let at = c.width.ensures.value in
-    Summarizes-emptied _ c.args.i _ _ _ _ c.self.invariant c.remove-was_present.ensures.count c.remove.ensures.count
-    c.remove-was_present.ensures.members
-    (c.remove.ensures.members ∙ ap (λ n. remove c.self.inside.summary.members (c.args.i / n)) at)
-    (subst (λ n. IsWordEmpty w c.remove-was_present.new.self.members (c.args.i / n)) at
-    (c.is_word_empty.ensures.0 c.if-is_word_empty.true))
+    let s = c.self.inside.words.members in
+    let greatest = greatest-is s c.args.i c.self.inside.max c.self.invariant.1 (sym c.eq.ensures ∙ c.if-eq.true) in
+    subst (λ t. EndsBefore w t (c.args.i / c.width.result + 1)) (sym c.remove_from-was_present.ensures.members)
+    (subst (λ n. EndsBefore w (remove s c.args.i) (c.args.i / n + 1)) (sym c.width.ensures.value)
+    (ends-remove_greatest w s c.args.i g.T.ScalarBitSetStorage.width_within.positive greatest))
 
-pub invariant_of-self-else-is_word_empty : goal.invariant_of-self-else-is_word_empty
-invariant_of-self-else-is_word_empty g c =
-    let w = g.T.ScalarBitSetStorage.width in
-    Summarizes-kept _ c.args.i _ _ _ _ c.self.invariant c.remove-was_present.ensures.count refl c.remove-was_present.ensures.members refl
-    (subst (λ n. IsWordEmpty w c.remove-was_present.new.self.members (c.args.i / n) → ⊥) c.width.ensures.value
-    (iff_false c.is_word_empty.ensures c.if-is_word_empty.false))
+pub invariant_of-self-else-eq : goal.invariant_of-self-else-eq
+invariant_of-self-else-eq g c = (
+  c.remove_from-was_present.ensures.summary,
+  subst (λ s. IsMax s c.self.inside.max) (sym c.remove_from-was_present.ensures.members)
+      (max-remove_other c.self.inside.words.members c.args.i c.self.inside.max c.self.invariant.1 (sym c.eq.ensures ∙ c.if-eq.false)),
+)

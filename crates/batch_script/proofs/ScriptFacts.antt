@@ -1,0 +1,163 @@
+-- The lines of a script can be read as items in one way alone.
+use Rattle.std.proofs.Common.{◌≡◌, ℕ, Bool, true, false, ◌||◌, List, [], ◌∷◌, ◌++◌, get_or, map, refl, sym, ap, ◌∙◌, arith}
+use Rattle.std.specs.Prelude.{codes, nat_eq, bytes_eq, if◌then◌else◌}
+use Rattle.std.specs.List.{AllByRecursion}
+use Rattle.std.proofs.lemmas.Bool.Decides.{nat_tests}
+use Rattle.batch_core.specs.declared.command.Command.{Command}
+use Rattle.batch_core.specs.declared.command.Command.TheVariants.{Push, Pop, Set, Alloc, Free, Put, Insert, Remove, Truncate}
+use Rattle.batch_core.specs.declared.command.End.{End}
+use Rattle.batch_core.specs.declared.command.End.TheVariants.{Commit, Abort}
+use Rattle.batch_script.specs.Machine.{Item, reserve, show, batch}
+use Rattle.batch_script.specs.Grammar.{Line, line_of, word_of, numbers_of, command_line, end_line, printed_lines, all_lines}
+use Rattle.batch_script.specs.Grammar.{IsValidCommand}
+use Rattle.batch_script.specs.Grammar.{IsValidItem}
+use Rattle.batch_script.specs.Reading.{has_space}
+use Rattle.batch_script.proofs.LineFacts.{same_line}
+
+-- the command of a word and its numbers
+abbrev command_of : List ℕ → ℕ → ℕ → Command ℕ
+command_of word first second =
+    if bytes_eq word (codes "push") then Push first
+    else if bytes_eq word (codes "pop") then Pop
+    else if bytes_eq word (codes "set") then Set first second
+    else if bytes_eq word (codes "alloc") then Alloc first
+    else if bytes_eq word (codes "free") then Free first
+    else if bytes_eq word (codes "put") then Put first second
+    else if bytes_eq word (codes "insert") then Insert first
+    else if bytes_eq word (codes "remove") then Remove first
+    else Truncate first
+
+-- the command that these parts of it make
+abbrev made_again : Command ℕ → Command ℕ
+made_again command = command_of (word_of command) (get_or (numbers_of command) 0 0) (get_or (numbers_of command) 1 0)
+
+same_again : (command : Command ℕ) → made_again command ≡ command
+same_again (Push value) = refl
+same_again Pop = refl
+same_again (Set at value) = refl
+same_again (Alloc value) = refl
+same_again (Free id) = refl
+same_again (Put id value) = refl
+same_again (Insert number) = refl
+same_again (Remove number) = refl
+same_again (Truncate kept) = refl
+
+-- whether a word ends a batch
+abbrev is_end : List ℕ → Bool
+is_end word = bytes_eq word (codes "commit") || bytes_eq word (codes "abort")
+
+-- the word of a command has no space, and ends no batch
+pub command_word : (command : Command ℕ) → (has_space (word_of command) ≡ false) × (is_end (word_of command) ≡ false)
+command_word (Push value) = (refl, refl)
+command_word Pop = (refl, refl)
+command_word (Set at value) = (refl, refl)
+command_word (Alloc value) = (refl, refl)
+command_word (Free id) = (refl, refl)
+command_word (Put id value) = (refl, refl)
+command_word (Insert number) = (refl, refl)
+command_word (Remove number) = (refl, refl)
+command_word (Truncate kept) = (refl, refl)
+
+-- a command is known by its line
+same_command : (command other : Command ℕ) → IsValidCommand command → IsValidCommand other → command_line command ≡ command_line other
+    → command ≡ other
+same_command command other valid sound same =
+    let parts = same_line (word_of command) (word_of other) (numbers_of command) (numbers_of other) (command_word command).0
+    (command_word other).0 valid sound same in
+    sym (same_again command)
+    ∙ (λ i. command_of (parts.0 i) (get_or (parts.1 i) 0 0) (get_or (parts.1 i) 1 0))
+    ∙ same_again other
+
+pub end_word : (ending : End) → (has_space (end_line ending) ≡ false) × (is_end (end_line ending) ≡ true)
+end_word Commit = (refl, refl)
+end_word Abort = (refl, refl)
+
+-- the line of a command ends no batch
+pub command_is_no_end : (command : Command ℕ) (ending : End) → IsValidCommand command → command_line command ≡ end_line ending → ⊥
+command_is_no_end command ending valid same =
+    let parts = same_line (word_of command) (end_line ending) (numbers_of command) [] (command_word command).0
+    (end_word ending).0 valid tt same in
+    let not_end = (command_word command).1 in
+    let ends = (end_word ending).1 in
+    let words = ap is_end parts.0 in
+    cc
+
+itself : (number : ℕ) → nat_eq number number ≡ true
+itself number = grind (arith, nat_tests)
+
+-- the first line, where there is one
+abbrev pub first_line : List Line → Line
+first_line lines = get_or lines 0 []
+
+-- two lines that begin with different bytes are different
+pub apart : (line other : Line) → nat_eq (get_or line 0 0) (get_or other 0 0) ≡ false → line ≡ other → ⊥
+apart line other differ same =
+    let heads = ap (λ l. nat_eq (get_or l 0 0) (get_or other 0 0)) same in
+    let equal = itself (get_or other 0 0) in
+    cc
+
+same_end : (ending other : End) → end_line ending ≡ end_line other → ending ≡ other
+same_end Commit Commit same = refl
+same_end Commit Abort same = absurd (apart _ _ refl same)
+same_end Abort Commit same = absurd (apart _ _ refl same)
+same_end Abort Abort same = refl
+
+-- the lines of a batch behind its first line, and what follows them
+abbrev pub batch_lines : List (Command ℕ) → End → List Line → List Line
+batch_lines commands ending rest = (map command_line commands ++ end_line ending ∷ []) ++ rest
+
+-- two batches that begin the same lines are the same, and are followed by the same
+same_batch : (commands others : List (Command ℕ)) (ending other : End) (rest more : List Line) → AllByRecursion IsValidCommand commands
+    → AllByRecursion IsValidCommand others → batch_lines commands ending rest ≡ batch_lines others other more
+    → (commands ≡ others) × (ending ≡ other) × (rest ≡ more)
+same_batch [] [] ending other rest more valid sound same = (refl, same_end ending other (cc), cc)
+same_batch [] (second ∷ others) ending other rest more valid sound same =
+    let heads : command_line second ≡ end_line ending = cc in absurd (command_is_no_end second ending sound.0 heads)
+same_batch (first ∷ commands) [] ending other rest more valid sound same =
+    let heads : command_line first ≡ end_line other = cc in absurd (command_is_no_end first other valid.0 heads)
+same_batch (first ∷ commands) (second ∷ others) ending other rest more valid sound same =
+    let heads : command_line first ≡ command_line second = cc in
+    let tails : batch_lines commands ending rest ≡ batch_lines others other more = cc in
+    let firsts : first ≡ second = same_command first second valid.0 sound.0 heads in
+    let later = same_batch commands others ending other rest more valid.1 sound.1 tails in
+    let commands_same : commands ≡ others = later.0 in
+    (cc, later.1, later.2)
+
+-- two items that begin the same lines are the same, and are followed by the same
+pub same_item : (item other : Item) (rest more : List Line) → IsValidItem item → IsValidItem other
+    → printed_lines item ++ rest ≡ printed_lines other ++ more → (item ≡ other) × (rest ≡ more)
+same_item (reserve number) (reserve amount) rest more valid sound same =
+    let lines : line_of (codes "reserve") (number ∷ []) ≡ line_of (codes "reserve") (amount ∷ []) = cc in
+    let parts = same_line (codes "reserve") (codes "reserve") (number ∷ []) (amount ∷ []) refl refl (valid, tt) (sound, tt) lines in
+    let numbers : number ∷ [] ≡ amount ∷ [] = parts.1 in
+    (cc, cc)
+same_item (reserve number) show rest more valid sound same = absurd (apart _ _ refl (ap first_line same))
+same_item (reserve number) (batch others end) rest more valid sound same = absurd (apart _ _ refl (ap first_line same))
+same_item show (reserve amount) rest more valid sound same = absurd (apart _ _ refl (ap first_line same))
+same_item show show rest more valid sound same = (refl, cc)
+same_item show (batch others end) rest more valid sound same = absurd (apart _ _ refl (ap first_line same))
+same_item (batch commands ending) (reserve amount) rest more valid sound same = absurd (apart _ _ refl (ap first_line same))
+same_item (batch commands ending) show rest more valid sound same = absurd (apart _ _ refl (ap first_line same))
+same_item (batch commands ending) (batch others end) rest more valid sound same =
+    let tails : batch_lines commands ending rest ≡ batch_lines others end more = cc in
+    let parts = same_batch commands others ending end rest more valid sound tails in
+    let bodies : commands ≡ others = parts.0 in
+    let ends : ending ≡ end = parts.1 in
+    (cc, parts.2)
+
+pub no_lines_left : (item : Item) (rest : List Line) → [] ≡ printed_lines item ++ rest → ⊥
+no_lines_left (reserve number) rest same = let bad : _ = same in cc
+no_lines_left show rest same = let bad : _ = same in cc
+no_lines_left (batch commands ending) rest same = let bad : _ = same in cc
+
+-- two lists of valid items with the same printed lines are equal
+pub one_script : (items others : List Item) → AllByRecursion IsValidItem items → AllByRecursion IsValidItem others
+    → all_lines items ≡ all_lines others → items ≡ others
+one_script [] [] valid sound same = refl
+one_script [] (other ∷ others) valid sound same = absurd (no_lines_left other (all_lines others) same)
+one_script (item ∷ items) [] valid sound same = absurd (no_lines_left item (all_lines items) (sym same))
+one_script (item ∷ items) (other ∷ others) valid sound same =
+    let parts = same_item item other (all_lines items) (all_lines others) valid.0 sound.0 same in
+    let first : item ≡ other = parts.0 in
+    let later : items ≡ others = one_script items others valid.1 sound.1 parts.1 in
+    cc

@@ -1,0 +1,42 @@
+-- The word of a number and its place there; how many words of one width some numbers need.
+use Rattle.std.proofs.Common.{⊎_elim, ◌≡◌, ℕ, ◌+◌, ◌*◌, ◌/◌, ◌%◌, ◌<◌, ◌≤◌, add-one, arith}
+use Rattle.std.specs.Int.{div_ceil}
+use Rattle.std.proofs.lemmas.Bool.{cases_lt}
+use Rattle.std.proofs.lemmas.Grind.{div_ceil_times}
+use Rattle.std.proofs.lemmas.Nat.{div_below, le-div}
+use Rattle.std.proofs.Math.Nat.{div-mul-le_self, suc-mul, mul-le-mul_right}
+
+-- where the next word starts
+pub next_start : (k w : ℕ) → (k + 1) * w ≡ k * w + w
+next_start k w = rw add-one (suc-mul k w)
+
+-- a greater number stands in no earlier word
+pub div_mono : (w a b : ℕ) → 0 < w → a ≤ b → a / w ≤ b / w
+div_mono w a b some le = le-div (a / w) b w some (let h = div-mul-le_self a w in omega arith)
+
+-- the rounded quotient reaches
+pub div_ceil-reaches : (w n : ℕ) → 0 < w → n ≤ div_ceil n w * w
+div_ceil-reaches w n some = (div_ceil_times n w some).0
+
+-- and is the least that does
+pub div_ceil-least : (w a n : ℕ) → 0 < w → a ≤ n * w → div_ceil a w ≤ n
+div_ceil-least w a n some reaches = ⊎_elim
+    (λ less. absurd (
+    let next = next_start n w in
+    let more : n + 1 ≤ div_ceil a w = omega arith in
+    let up : (n + 1) * w ≤ div_ceil a w * w = mul-le-mul_right w more in
+    let under = (div_ceil_times a w some).1 in
+    omega arith))
+    (λ le. le)
+    (cases_lt n (div_ceil a w))
+
+pub div_ceil-mono : (w a b : ℕ) → 0 < w → a ≤ b → div_ceil a w ≤ div_ceil b w
+div_ceil-mono w a b some le = div_ceil-least w a (div_ceil b w) some (let h = div_ceil-reaches w b some in omega arith)
+
+-- a number below n has its word among those that the numbers below n need
+pub below_div_ceil : (w k n : ℕ) → 0 < w → k < n → k / w < div_ceil n w
+below_div_ceil w k n some below = div_below k w (div_ceil n w) some (let h = div_ceil-reaches w n some in omega arith)
+
+-- no numbers need no word
+pub div_ceil-zero : (w : ℕ) → 0 < w → div_ceil 0 w ≡ 0
+div_ceil-zero w some = omega arith
