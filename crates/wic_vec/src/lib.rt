@@ -14,8 +14,7 @@
 //! refused. A caller that meets a refusal may give up, free what it can spare and ask again, or go on without.
 //!
 //! `push` and `pop` cost amortised constant time, `retain` and `drain` one pass, a comparison stops at the first
-//! difference. Elements that are dropped while a vector grows or is cut are no concern of these contracts, nor is whether
-//! the allocator has memory.
+//! difference. No contract says when the allocator has memory, nor in which order elements are dropped.
 #![tactic(auto)]
 
 mod boxes;

@@ -1,0 +1,2 @@
+-- What contracts see of collecting.
+pub mod Collect
