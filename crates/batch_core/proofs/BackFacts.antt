@@ -117,7 +117,7 @@ module _ {X : Type 0} where
   undoing_goes_back c (Remove number) sound none = undo_remove c number (contains c.set number) refl
   undoing_goes_back c (Truncate kept) sound none =
       undo_all-append (map Cut (reverse (drop kept c.list))) (Truncated (length c.list - kept) ∷ [])
-          (record c { list = take kept c.list })
+      (record c { list = take kept c.list })
       ∙ undo_cuts (drop kept c.list) (record c { list = take kept c.list })
       ∙ ap (λ l. record c { list = l }) (take-append-drop kept c.list)
 
@@ -163,7 +163,7 @@ module _ {X : Type 0} where
       let first : length c.list < within.list = omega arith in
       subst (λ rs. CanGoBack within rs c) (sym apart)
       (can_append within (map Cut (reverse ys)) (Cut y ∷ []) c (tt, first)
-          (can_cuts within ys (record c { list = c.list ++ y ∷ [] }) more))
+      (can_cuts within ys (record c { list = c.list ++ y ∷ [] }) more))
 
   can_pop : (within : Capacities) (c : Contents X) (ys : List X) (y : X) → length (ys ++ y ∷ []) ≤ within.list
       → CanGoBack within (made_of (last_value (ys ++ y ∷ [])) Popped) (record c { list = without_last (ys ++ y ∷ []) })
@@ -197,7 +197,7 @@ module _ {X : Type 0} where
       let live = admitted _ _ none in
       let found = live_value c.live id live in
       let less : len (remove c.live id) < w.table =
-          omega (arith, len-remove_live c.live id live, len_of_live c.live id live, room.table) in
+      omega (arith, len-remove_live c.live id live, len_of_live c.live id live, room.table) in
       subst (λ o. CanGoBack w (made_of o (Freed id)) (record c { live = remove c.live id; order = give_back c.order id })) (sym found.1)
       (tt, less)
   can_step w c (Put id value) room sound none =

@@ -11,7 +11,7 @@ returns-in_err-id-clause-never_refused_within g c room =
     let value = c.args.value in
     let adds = alloc_adds
     (record { list = c.self.inside.list.items; set = c.self.inside.set.members; live = table.live; order = table.order }) value
-        c.len.ensures.sound.belongs in
+    c.len.ensures.sound.belongs in
     let same = ap (λ v. len (insert v.contents.live (next_id v.contents.order) value)) view in
     let capacity = ap (λ v. v.capacities.table) view in
     let full : len table.live ≡ table.capacity = c.in_err-id.ensures.refused_only_full in

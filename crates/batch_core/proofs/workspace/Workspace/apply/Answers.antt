@@ -8,7 +8,7 @@ returns-in-Err-run-clause-never_oom_within g c fits =
     let begun = c.get_mut.ensures.held ∙ c.new-guard.ensures.holds ∙ c.replace-held.ensures.value in
     c.in-Err-run.ensures.never_oom_within
     (fits_kept (ap (λ w. w.room) begun ∙ c.begin_records.ensures.room)
-        (ap (λ w. w.contents) begun ∙ c.begin_records.ensures.contents) fits)
+    (ap (λ w. w.contents) begun ∙ c.begin_records.ensures.contents) fits)
 
 pub returns-in-Err-run-clause-never_refused_within : goal.returns-in-Err-run-clause-never_refused_within
 returns-in-Err-run-clause-never_refused_within g c fits none =
