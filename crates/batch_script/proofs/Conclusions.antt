@@ -10,7 +10,7 @@ use Rattle.batch_script.specs.Status.{IsNoScript}
 use Rattle.batch_script.specs.Machine.{Item, Run}
 use Rattle.batch_script.specs.declared.program.Status.{Status}
 use Rattle.batch_script.specs.declared.program.Status.TheVariants.{Done, Syntax, Oom, ReadFault, WriteFault, TooLong, Usage}
-use Rattle.batch_script.proofs.Prefixes.{one_script}
+use Rattle.batch_script.proofs.ScriptFacts.{one_script}
 
 pub some_told : (bytes input : List ℕ) → Some bytes ≡ Some input → bytes ≡ input
 some_told bytes input same = cc

@@ -9,9 +9,9 @@ use Rattle.batch_script.specs.declared.item.Item.{Item as SourceItem}
 use Rattle.batch_script.specs.declared.item.Item.TheVariants.{Reserve, Show, Batch}
 use Rattle.batch_script.specs.declared.line.Numbers.{Numbers}
 use Rattle.batch_script.specs.declared.line.Numbers.TheVariants.{Zero, One, Two}
-use Rattle.batch_script.specs.declared.parse.Reading.{Reading}
-use Rattle.batch_script.specs.declared.parse.Start.{Start}
-use Rattle.batch_script.specs.declared.parse.Start.TheVariants.{Reserve as StartsReserve, Show as StartsShow, Begin as StartsBatch}
+use Rattle.batch_script.specs.declared.parser.Reading.{Reading}
+use Rattle.batch_script.specs.declared.parser.Start.{Start}
+use Rattle.batch_script.specs.declared.parser.Start.TheVariants.{Reserve as StartsReserve, Show as StartsShow, Begin as StartsBatch}
 use Rattle.batch_script.specs.Machine.{Item, reserve, show, batch}
 use Rattle.batch_script.specs.Grammar.{Line, IsWritable, IsValidItem, IsValidCommand, all_lines, command_line, line_of}
 

@@ -7,7 +7,7 @@ ghost use Rattle.batch_script.specs.RunText.{IsRunText, IsTextOfRun, Answers, st
 
 use crate::item::Item;
 use crate::kind::BatchKind;
-use crate::parse::parse;
+use crate::parser::parse;
 use crate::reply::{push_contents, push_records, push_refusal};
 use crate::run_error::RunError;
 use batch_core::{Batch, Done, Refusal, ReserveRefusal, Workspace};

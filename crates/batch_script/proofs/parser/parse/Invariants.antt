@@ -1,7 +1,7 @@
 use Rattle.std.proofs.Common.{◌≡◌, ◌+◌, ◌≤◌, length, take, drop}
 use Rattle.batch_script.specs.Grammar.{lines_of}
 use Rattle.batch_script.specs.Reading.{HasRead}
-use Rattle.batch_script.proofs.parse.parse.Given as goal
+use Rattle.batch_script.proofs.parser.parse.Given as goal
 
 abbrev pub invariant-loop-line : goal.invariant-loop-line
 invariant-loop-line l = record {

@@ -2,8 +2,8 @@ use Rattle.std.proofs.Common.{◌≡◌, ◌∙◌, take, length, sym, subst, ar
 use Rattle.batch_script.specs.Grammar.{lines_of}
 use Rattle.batch_script.specs.Reading.{AreRead, HasRead, begun_of, plain_items}
 use Rattle.batch_script.proofs.Readings.{IsOpen-read, IsFaultLine-at, IsFaultLine-end, take_next, drop_next, take_to_end, begun-IsScript}
-use Rattle.batch_script.specs.declared.parse.LineRefusal.TheVariants.{Syntax}
-use Rattle.batch_script.proofs.parse.parse.Goals as goal
+use Rattle.batch_script.specs.declared.parser.LineRefusal.TheVariants.{Syntax}
+use Rattle.batch_script.proofs.parser.parse.Goals as goal
 
 pub returns-in-Err-Syntax-clause-refusal : goal.returns-in-Err-Syntax-clause-refusal
 returns-in-Err-Syntax-clause-refusal c =

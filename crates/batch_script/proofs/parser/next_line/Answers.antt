@@ -2,7 +2,7 @@ use Rattle.std.proofs.Common.{◌+◌, arith}
 use Rattle.std.proofs.lemmas.List.{take_rest}
 use Rattle.std.proofs.lemmas.Bool.Decides.{nat_tests}
 use Rattle.batch_script.proofs.Lines.{lines-at_line_feed, lines-without_line_feed}
-use Rattle.batch_script.proofs.parse.next_line.Goals as goal
+use Rattle.batch_script.proofs.parser.next_line.Goals as goal
 
 pub returns-in-Some-clause-lines : goal.returns-in-Some-clause-lines
 returns-in-Some-clause-lines c =

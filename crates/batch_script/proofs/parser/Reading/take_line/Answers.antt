@@ -2,7 +2,7 @@ use Rattle.std.proofs.Common.{subst}
 use Rattle.std.proofs.lemmas.Result.{on_ok_weaker}
 use Rattle.batch_script.specs.Reading.{AreRead, begun_of, plain_items}
 use Rattle.batch_script.proofs.Readings.{stuck_with_none}
-use Rattle.batch_script.proofs.parse.Reading.take_line.Goals as goal
+use Rattle.batch_script.proofs.parser.Reading.take_line.Goals as goal
 
 pub returns-in-None-clause-syntax : goal.returns-in-None-clause-syntax
 returns-in-None-clause-syntax c = λ refused lines was.

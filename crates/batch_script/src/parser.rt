@@ -109,7 +109,7 @@ enum LineRefusal {
 
 impl From<OutOfMemory> for LineRefusal {
     ghost use Rattle.std.specs.Prelude.{◌≡◌};
-    ghost use Rattle.batch_script.specs.declared.parse.LineRefusal.TheVariants.{Oom};
+    ghost use Rattle.batch_script.specs.declared.parser.LineRefusal.TheVariants.{Oom};
 
     ghost from_gives = { λ _ refusal. refusal ≡ Oom };
 
