@@ -146,7 +146,7 @@ impl Draws {
             11 => Command::Free(self.below(8)),
             12 => Command::Put(self.below(8), self.below(100)),
             13..=15 => Command::Insert(self.below(300)),
-            16 => Command::Insert(4294967296 + self.below(2)),
+            16 => Command::Insert(4294967296),
             17..=18 => Command::Remove(self.below(300)),
             _ => Command::Truncate(self.below(8)),
         }
