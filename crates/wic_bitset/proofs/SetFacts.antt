@@ -1,10 +1,12 @@
 -- Finite sets of numbers: equal where they have the same members.
-use Rattle.std.proofs.Common.{⊎_elim, ◌≡◌, ◌≢◌, ℕ, zero, suc, ◌+◌, ◌<◌, ◌≤◌, Bool, true, false, not, ◌&&◌, length, refl, sym, ap, ◌∙◌, arith}
+use Rattle.std.proofs.Common.{⊎_elim, ◌≡◌, ◌≢◌, ℕ, zero, suc, ◌+◌, ◌<◌, ◌≤◌, Bool, true, false, not, ◌&&◌, length, refl, sym, ap, ◌∙◌}
+use Rattle.std.proofs.Common.{arith}
 use Rattle.std.specs.Prelude.{nat_lt}
 use Rattle.std.specs.List.{filter, range_with_len}
 use Rattle.std.specs.Ordering.{nat_cmp}
 use Rattle.std.specs.Cmp.{nat_cmp_total, unsigned_tied}
-use Rattle.std.specs.FinSet.{FinSet, empty, contains, insert, remove, len, from_list, same_set, members, nat_cmp-IsAntisymmetric, contains-empty}
+use Rattle.std.specs.FinSet.{FinSet, empty, contains, insert, remove, len, from_list, same_set, members, nat_cmp-IsAntisymmetric}
+use Rattle.std.specs.FinSet.{contains-empty}
 use Rattle.std.specs.FinSet.{contains-insert, contains-remove, len-empty, len-insert}
 use Rattle.std.proofs.lemmas.Bool.{cases_eq, cases_Bool}
 use Rattle.std.proofs.lemmas.Bool.Decides.{nat_tests}

@@ -1,26 +1,24 @@
 -- Words of one width as one set: what is in it, and what a digit more changes.
-use Rattle.std.proofs.Common.{⊎_elim, ◌≡◌, ◌≢◌, ℕ, zero, suc, ◌+◌, ◌*◌, ◌/◌, ◌%◌, ◌<◌, ◌≤◌, Bool, true, false, not, ◌&&◌, ◌||◌, List, []}
+use Rattle.std.proofs.Common.{⊎_elim, ◌≡◌, ◌≢◌, ℕ, zero, suc, ◌+◌, ◌*◌, ◌/◌, ◌%◌, ◌<◌, ◌≤◌, true, false, List, []}
 use Rattle.std.proofs.Common.{◌∷◌, ◌++◌, length-append, length, map, get_or, set, Option, Some, None, slice_get, refl, sym, ap, subst}
 use Rattle.std.proofs.Common.{◌∙◌, ◌↔◌, arith}
-use Rattle.std.specs.Prelude.{◌==◌, nat_lt, nat_eq, All, Contains}
-use Rattle.std.specs.List.{filter, range_with_len}
+use Rattle.std.specs.Prelude.{All, Contains}
 use Rattle.std.proofs.Common.{take, min, length-take}
 use Rattle.std.proofs.lemmas.List.{take-map, get_or-take}
-use Rattle.std.specs.Ordering.{nat_cmp, eq_by_cmp}
-use Rattle.std.specs.Cmp.{nat_cmp_total, unsigned_tied}
-use Rattle.std.specs.FinSet.{FinSet, empty, contains, insert, remove, from_list, same_set, nat_cmp-IsAntisymmetric, contains-empty, contains-insert}
-use Rattle.std.specs.FinSet.{contains-remove}
-use Rattle.std.proofs.lemmas.Bool.{cases_eq, cases_lt, cases_Bool, false_from_ne_true}
+use Rattle.std.specs.Ordering.{nat_cmp}
+use Rattle.std.specs.Cmp.{nat_cmp_total}
+use Rattle.std.specs.FinSet.{FinSet, empty, contains, insert, remove, same_set, nat_cmp-IsAntisymmetric}
+use Rattle.std.proofs.lemmas.Bool.{cases_eq, cases_lt, false_from_ne_true}
 use Rattle.std.proofs.lemmas.List.Elements.{All-contains}
 use Rattle.std.proofs.lemmas.Bool.Decides.{nat_tests}
 use Rattle.std.proofs.lemmas.List.{length-map, map-append, get_or_at, get_or_append_left, get_or-set_same, get_or-set_other, map-set}
 use Rattle.std.proofs.lemmas.Nat.{div_below, mod_below, le-div, div-mul-add, mod-mul-add, div-add-mod'}
-use Rattle.std.proofs.Math.Nat.{mod-add-div, mul_comm}
 use Rattle.wic_scalar.specs.Digits.{is_one}
 use Rattle.wic_scalar.specs.Scalar.{set_of, members_of}
 use Rattle.wic_scalar.proofs.DigitLemmas.{is_one-zero}
 use Rattle.wic_scalar.proofs.MemberLemmas.{contains-set_of, Contains-set_of, members_of-none, none_from_members}
-use Rattle.wic_bitset.proofs.SetFacts.{contains-filter_range, empty_of_none, there_after_insert, same_after_insert, gone_after_remove, same_after_remove}
+use Rattle.wic_bitset.proofs.SetFacts.{contains-filter_range, empty_of_none, there_after_insert, same_after_insert, gone_after_remove}
+use Rattle.wic_bitset.proofs.SetFacts.{same_after_remove}
 use Rattle.wic_bitset.specs.Words.{has, set_of_words, AreFirstWords, EndsBefore, IsGreatestOfWord, IsWordOf, IsWordEmpty}
 
 -- a member by its digit

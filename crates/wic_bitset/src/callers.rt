@@ -45,10 +45,7 @@ pub fn far_apart<L: Ledger>(
 }
 
 // A set that was emptied: the one word of its summary is looked at, and no other.
-pub fn emptied<L: Ledger>(
-    alloc: Global,
-    steps: &mut Steps<L>,
-) -> Result<TryVec<usize>, OutOfMemory>
+pub fn emptied<L: Ledger>(alloc: Global, steps: &mut Steps<L>) -> Result<TryVec<usize>, OutOfMemory>
     ensures { steps.new ≤ steps.old + 1 }
 {
     let mut set: CompoundBitSet<u64> = CompoundBitSet::new(alloc);

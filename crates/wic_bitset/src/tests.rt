@@ -53,9 +53,18 @@ fn inserted<T: ScalarBitSetStorage>(
 #[test]
 fn room_grows_by_the_rule(rt: HostRuntime) -> Result<(), Fail> {
     let alloc = rt.alloc();
-    assert_eq!(rt; CompoundBitSet::<u32>::with_capacity(alloc, 0)?.capacity(), 0);
-    assert_eq!(rt; CompoundBitSet::<u32>::try_with_capacity(alloc, 4096)?.capacity(), 4096);
-    assert_eq!(rt; asked(alloc, &[1001, 1024, 1025])?.as_slice(), [1024, 1024, 2048].as_slice());
+    assert_eq!(rt;
+        CompoundBitSet::<u32>::with_capacity(alloc, 0)?.capacity(),
+        0
+    );
+    assert_eq!(rt;
+        CompoundBitSet::<u32>::try_with_capacity(alloc, 4096)?.capacity(),
+        4096
+    );
+    assert_eq!(rt;
+        asked(alloc, &[1001, 1024, 1025])?.as_slice(),
+        [1024, 1024, 2048].as_slice()
+    );
     assert_eq!(rt;
         inserted::<u64>(alloc, &[0, 0, 256])?.as_slice(),
         [(true, 256), (false, 256), (true, 512)].as_slice()

@@ -14,7 +14,8 @@ returns-then-contains g c =
     let s = c.args.set.now.members in
     let i = c.args.i in
     let there : contains s i ≡ true = sym c.contains.ensures.member ∙ c.if-contains.true in
-    let below = subst (λ n. i < n * g.T.ScalarBitSetStorage.width) (sym c.remove.ensures.words) (c.contains.ensures.below c.if-contains.true) in
+    let below = subst (λ n. i < n * g.T.ScalarBitSetStorage.width) (sym c.remove.ensures.words)
+    (c.contains.ensures.below c.if-contains.true) in
     same_compound _ _
     (on_ok c.insert.result (c.insert.ensures.never_refused_below below) c.insert.ensures.members
     ∙ ap (λ t. insert t i) c.remove.ensures.members ∙ insert-remove s i there)
