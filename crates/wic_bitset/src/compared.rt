@@ -53,8 +53,7 @@ impl<T: ScalarBitSetStorage> Hash for CompoundBitSet<T> {
 
     fn hash<H: Hasher>(&self, state: &mut H) {
         state.write_usize(self.len());
-        let mut rest = self.iter();
-        while let Some(x) = rest.next() {
+        for x in self {
             x.hash(state);
         }
     }
