@@ -4,7 +4,7 @@ use Rattle.std.proofs.Common.{append-nil, add-zero, refl, sym, ap, ◌∙◌, �
 use Rattle.std.specs.List.{filter, flat_map, list_any, range_with_len}
 use Rattle.std.specs.Ordering.{nat_cmp, eq_by_cmp}
 use Rattle.std.specs.Cmp.{nat_cmp_total, unsigned_tied}
-use Rattle.std.specs.FinSet.{FinSet, contains, items, contains-items, contains-from_list}
+use Rattle.std.specs.FinSet.{FinSet, empty, contains, insert, items, len, contains-empty, contains-items, contains-from_list, len-empty}
 use Rattle.std.proofs.lemmas.Bool.{cases_eq, cases_lt, cases_Bool, false_from_ne_true}
 use Rattle.std.proofs.lemmas.Bool.Decides.{nat_tests}
 use Rattle.std.proofs.lemmas.Grind.{flat_map-append}
@@ -18,6 +18,7 @@ use Rattle.wic_bitset.specs.Words.{IsWordOf, IsWordEmpty}
 use Rattle.wic_bitset.proofs.BetweenFacts.{between-none, between-last, between-last_word, filter_shift}
 use Rattle.wic_bitset.proofs.DivisionFacts.{next_start}
 use Rattle.wic_bitset.proofs.RisingFacts.{below_top, between-rising}
+use Rattle.wic_bitset.proofs.SetFacts.{empty_of_none, same_by_absence, there_after_insert, same_after_insert, len-insert-le}
 use Rattle.wic_bitset.proofs.WordFacts.{contains_below}
 
 -- the digits of word k give the members in it
@@ -73,6 +74,34 @@ filled_words-empty w s k =
           let gone = none x at in
           absurd (cc)),
     )
+
+-- one number more is one such word more at most
+filled_words-insert : (w : ℕ) (s : FinSet nat_cmp) (i : ℕ) → filled_words w (insert s i) ≡ insert (filled_words w s) (i / w)
+filled_words-insert w s i = same_by_absence _ _
+    (λ k none.
+    let empty = (filled_words-empty w (insert s i) k).0 none in
+    let apart : k ≢ i / w = λ same. absurd (let no = empty i (sym same) in let yes = there_after_insert s i in cc) in
+    same_after_insert (filled_words w s) (i / w) k apart
+    ∙ (filled_words-empty w s k).1 (λ q at.
+    sym (same_after_insert s i q (λ same. apart (sym at ∙ ap (λ n. n / w) same))) ∙ empty q at))
+    (λ k none.
+    let apart : k ≢ i / w = λ same. absurd (
+    let no = ap (contains (insert (filled_words w s) (i / w))) (sym same) ∙ none in
+    let yes = there_after_insert (filled_words w s) (i / w) in
+    cc) in
+    let empty = (filled_words-empty w s k).0 (sym (same_after_insert (filled_words w s) (i / w) k apart) ∙ none) in
+    (filled_words-empty w (insert s i) k).1 (λ q at.
+    same_after_insert s i q (λ same. apart (sym at ∙ ap (λ n. n / w) same)) ∙ empty q at))
+
+pub len-filled_words-insert : (w : ℕ) (s : FinSet nat_cmp) (i : ℕ) → len (filled_words w (insert s i)) ≤ len (filled_words w s) + 1
+len-filled_words-insert w s i =
+    let same = ap len (filled_words-insert w s i) in omega (arith, same, len-insert-le (filled_words w s) (i / w))
+
+-- no members have no such word
+pub len-filled_words-empty : (w : ℕ) → len (filled_words w empty) ≡ 0
+len-filled_words-empty w =
+    ap len (empty_of_none (filled_words w empty) (λ k. (filled_words-empty w empty k).1 (λ i _. contains-empty nat_cmp i)))
+    ∙ len-empty nat_cmp
 
 -- the members of the first words, from those that have one
 by_first_words : (w : ℕ) (s filled : FinSet nat_cmp) → ((k : ℕ) → contains filled k ≡ false → IsWordEmpty w s k) → 0 < w → (n : ℕ)

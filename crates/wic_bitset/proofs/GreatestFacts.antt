@@ -1,5 +1,6 @@
 -- The greatest member, where a number is put in or taken out, and from one word to the next.
-use Rattle.std.proofs.Common.{⊎_elim, ◌≡◌, ◌≢◌, ℕ, ◌+◌, ◌*◌, ◌/◌, ◌<◌, ◌≤◌, true, false, max, Bool, not, Option, Some, None, is_some, IsNone, IsTrue, refl, ◌↔◌, sym, ap, subst, ◌∙◌, arith}
+use Rattle.std.proofs.Common.{⊎_elim, ◌≡◌, ◌≢◌, ℕ, ◌+◌, ◌/◌, ◌<◌, ◌≤◌, true, false, max, Bool, not, Option, Some, None, is_some}
+use Rattle.std.proofs.Common.{IsNone, IsTrue, refl, ◌↔◌, sym, ap, subst, ◌∙◌, arith}
 use Rattle.std.specs.Prelude.{nat_eq}
 use Rattle.std.specs.Option.{option_eq}
 use Rattle.std.specs.Ordering.{nat_cmp}
@@ -10,7 +11,7 @@ use Rattle.wic_bitset.specs.Greatest.{IsGreatest, IsMax}
 use Rattle.wic_bitset.specs.Words.{EndsBefore, IsGreatestOfWord, IsWordEmpty}
 use Rattle.wic_bitset.proofs.DivisionFacts.{div_mono}
 use Rattle.wic_bitset.proofs.SetFacts.{empty_of_none, none_in_empty, remove_absent, there_after_insert, same_after_insert}
-use Rattle.wic_bitset.proofs.SetFacts.{gone_after_remove, same_after_remove, was_before_remove}
+use Rattle.wic_bitset.proofs.SetFacts.{same_after_remove, was_before_remove}
 
 -- there is a greatest member, or the set is empty
 pub max-none : (s : FinSet nat_cmp) (r : Option ℕ) → IsMax s r → IsNone r ↔ (s ≡ empty)
@@ -57,7 +58,8 @@ greatest-is s i None none test = absurd (cc)
 greatest-is s i (Some m) last test = let same : m ≡ i = grind (arith, nat_tests) in subst (IsGreatest s) same last
 
 -- another number is taken out
-pub max-remove_other : (s : FinSet nat_cmp) (i : ℕ) (r : Option ℕ) → IsMax s r → option_eq nat_eq r (Some i) ≡ false → IsMax (remove s i) r
+pub max-remove_other : (s : FinSet nat_cmp) (i : ℕ) (r : Option ℕ) → IsMax s r → option_eq nat_eq r (Some i) ≡ false
+    → IsMax (remove s i) r
 max-remove_other s i None none other = remove_absent s i (none_in_empty s none i) ∙ none
 max-remove_other s i (Some m) old other =
     let apart : m ≢ i = λ same. absurd (grind (arith, nat_tests)) in record {

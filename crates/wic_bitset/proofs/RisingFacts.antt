@@ -1,5 +1,6 @@
 -- The rising list of the members is any list of them up to a place that is above them all.
-use Rattle.std.proofs.Common.{⊎_elim, ◌≡◌, ℕ, ◌+◌, ◌-◌, ◌<◌, ◌≤◌, Bool, true, List, [], ◌∷◌, ◌++◌, length, length-append, sym, ap, ◌∙◌, arith, max}
+use Rattle.std.proofs.Common.{⊎_elim, ◌≡◌, ℕ, ◌+◌, ◌-◌, ◌<◌, ◌≤◌, Bool, true, List, [], ◌∷◌, ◌++◌, length, length-append, sym, ap, ◌∙◌}
+use Rattle.std.proofs.Common.{arith, max}
 use Rattle.std.proofs.Common.{append-nil, IsTrue, ◌↔◌}
 use Rattle.std.specs.Prelude.{nat_eq, All}
 use Rattle.std.specs.List.{list_any}

@@ -1,13 +1,16 @@
 -- Finite sets of numbers: equal where they have the same members.
-use Rattle.std.proofs.Common.{⊎_elim, ◌≡◌, ◌≢◌, ℕ, zero, suc, ◌+◌, ◌<◌, ◌≤◌, Bool, true, false, not, ◌&&◌, length, sym, ap, ◌∙◌, arith}
+use Rattle.std.proofs.Common.{⊎_elim, ◌≡◌, ◌≢◌, ℕ, zero, suc, ◌+◌, ◌<◌, ◌≤◌, Bool, true, false, not, ◌&&◌, length, refl, sym, ap, ◌∙◌}
+use Rattle.std.proofs.Common.{arith}
 use Rattle.std.specs.Prelude.{nat_lt}
 use Rattle.std.specs.List.{filter, range_with_len}
 use Rattle.std.specs.Ordering.{nat_cmp}
 use Rattle.std.specs.Cmp.{nat_cmp_total, unsigned_tied}
-use Rattle.std.specs.FinSet.{FinSet, empty, contains, insert, remove, len, from_list, same_set, members, nat_cmp-IsAntisymmetric, contains-empty}
+use Rattle.std.specs.FinSet.{FinSet, empty, contains, insert, remove, len, from_list, same_set, members, nat_cmp-IsAntisymmetric}
+use Rattle.std.specs.FinSet.{contains-empty}
 use Rattle.std.specs.FinSet.{contains-insert, contains-remove, len-empty, len-insert}
 use Rattle.std.proofs.lemmas.Bool.{cases_eq, cases_Bool}
 use Rattle.std.proofs.lemmas.Bool.Decides.{nat_tests}
+use Rattle.wic_bitset.specs.Compound.{Compound}
 
 -- a number that isn't there is taken out
 pub remove_absent : (s : FinSet nat_cmp) (i : ℕ) → contains s i ≡ false → remove s i ≡ s
@@ -30,6 +33,21 @@ insert_present s i present = same_set nat_cmp_total nat_cmp-IsAntisymmetric _ _ 
     (λ same. rw same (grind (members, unsigned_tied, arith, nat_tests)))
     (λ apart. grind (members, unsigned_tied, arith, nat_tests))
     (cases_eq q i))
+
+-- two sets in words are the same where their parts are
+pub same_compound : (s t : Compound) → s.members ≡ t.members → s.words ≡ t.words → s ≡ t
+same_compound s t members words = λ j. record { members = members j; words = words j }
+
+-- two sets are the same where the same numbers are absent
+pub same_by_absence : (s t : FinSet nat_cmp) → ((q : ℕ) → contains s q ≡ false → contains t q ≡ false)
+    → ((q : ℕ) → contains t q ≡ false → contains s q ≡ false) → s ≡ t
+same_by_absence s t one other =
+    same_set nat_cmp_total nat_cmp-IsAntisymmetric _ _ (λ q. same_bits (contains s q) (contains t q) (one q) (other q))
+  where
+    same_bits : (a b : Bool) → (a ≡ false → b ≡ false) → (b ≡ false → a ≡ false) → a ≡ b
+    same_bits true true f g = refl
+    same_bits true false f g = absurd (let no = g refl in cc)
+    same_bits false b f g = sym (f refl)
 
 -- a new number is put in and taken out again
 pub remove-insert : (s : FinSet nat_cmp) (i : ℕ) → contains s i ≡ false → remove (insert s i) i ≡ s
@@ -97,6 +115,13 @@ contains-filter_range p a (suc n) q =
     (λ apart. grind (arith, nat_tests))
     (cases_eq q a)))
     (cases_Bool (p a))
+
+-- one number more is one member more at most
+pub len-insert-le : (s : FinSet nat_cmp) (i : ℕ) → len (insert s i) ≤ len s + 1
+len-insert-le s i = ⊎_elim
+    (λ yes. let e = len-insert nat_cmp_total s i in let t = rw yes at e in omega arith)
+    (λ no. let e = len-insert nat_cmp_total s i in let t = rw no at e in omega arith)
+    (cases_Bool (contains s i))
 
 -- the number of members of such a set
 pub count_in : (p : ℕ → Bool) (a m : ℕ)

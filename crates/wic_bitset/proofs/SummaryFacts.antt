@@ -1,22 +1,22 @@
 -- Every change keeps the summary.
-use Rattle.std.proofs.Common.{⊎_elim, ◌≡◌, ◌≢◌, ℕ, ◌+◌, ◌*◌, ◌/◌, ◌<◌, ◌≤◌, true, false, Bool, Option, Some, None, refl, sym, ap, subst, ◌∙◌, ◌↔◌, arith}
+use Rattle.std.proofs.Common.{⊎_elim, ◌≡◌, ◌≢◌, ℕ, ◌+◌, ◌*◌, ◌/◌, ◌<◌, ◌≤◌, true, false, Option, Some, None, refl, sym, ap, subst}
+use Rattle.std.proofs.Common.{◌∙◌, ◌↔◌, arith}
 use Rattle.std.specs.Int.{div_ceil}
 use Rattle.std.specs.Ordering.{nat_cmp}
-use Rattle.std.specs.Cmp.{nat_cmp_total}
-use Rattle.std.specs.FinSet.{FinSet, empty, contains, insert, remove, same_set, nat_cmp-IsAntisymmetric}
+use Rattle.std.specs.FinSet.{FinSet, empty, contains, insert, remove}
 use Rattle.std.proofs.lemmas.Bool.{cases_eq, cases_lt, cases_Bool, false_from_ne_true}
 use Rattle.std.specs.Prelude.{All}
 use Rattle.wic_bitset.specs.Rising.{rising, word_members}
 use Rattle.wic_bitset.proofs.BetweenFacts.{All-between}
 use Rattle.wic_bitset.proofs.RisingFacts.{All-rising}
 use Rattle.wic_bitset.specs.Greatest.{IsGreatest, IsMax}
-use Rattle.wic_bitset.specs.Words.{Words, most_words, EndsBefore, IsGreatestOfWord, IsMaxOfWord, IsWordEmpty}
+use Rattle.wic_bitset.specs.Words.{Words, most_words, EndsBefore, IsMaxOfWord, IsWordEmpty}
 use Rattle.wic_bitset.specs.Summary.{Summarizes, block_words, filled_words}
 use Rattle.wic_bitset.proofs.ByWordFacts.{filled_words-empty}
 use Rattle.wic_bitset.proofs.DivisionFacts.{below_div_ceil, div_ceil-reaches}
 use Rattle.wic_bitset.proofs.GreatestFacts.{greatest_of_last_word}
 use Rattle.wic_bitset.proofs.SetFacts.{empty_of_none, none_in_empty, there_after_insert, same_after_insert, gone_after_remove}
-use Rattle.wic_bitset.proofs.SetFacts.{same_after_remove, was_before_remove}
+use Rattle.wic_bitset.proofs.SetFacts.{same_after_remove, same_by_absence, was_before_remove}
 
 -- other words are as empty as before
 other_word : (w i k : ℕ) (s t : FinSet nat_cmp) → ((q : ℕ) → q ≢ i → contains t q ≡ contains s q) → k ≢ i / w
@@ -164,16 +164,9 @@ module _ (w : ℕ) (words summary : Words) (sum : Summarizes w words summary) wh
 
 pub summary_is_filled_words : (w : ℕ) (words summary : Words) → Summarizes w words summary
     → summary.members ≡ filled_words w words.members
-summary_is_filled_words w words summary sum = same_set nat_cmp_total nat_cmp-IsAntisymmetric _ _ (λ k.
-    let listed = filled_words-empty w words.members k in
-    same_bits (contains summary.members k) (contains (filled_words w words.members) k)
-    (λ none. listed.1 ((sum.digits k).0 none))
-    (λ none. (sum.digits k).1 (listed.0 none)))
-  where
-    same_bits : (a b : Bool) → (a ≡ false → b ≡ false) → (b ≡ false → a ≡ false) → a ≡ b
-    same_bits true true f g = refl
-    same_bits true false f g = absurd (let no = g refl in cc)
-    same_bits false b f g = sym (f refl)
+summary_is_filled_words w words summary sum = same_by_absence _ _
+    (λ k none. (filled_words-empty w words.members k).1 ((sum.digits k).0 none))
+    (λ k none. (sum.digits k).1 ((filled_words-empty w words.members k).0 none))
 
 -- a word that has a member is there
 filled_within : (w : ℕ) (words summary : Words) → Summarizes w words summary → (k : ℕ)

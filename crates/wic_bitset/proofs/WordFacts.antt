@@ -1,49 +1,25 @@
 -- Words of one width as one set: what is in it, and what a digit more changes.
-use Rattle.std.proofs.Common.{⊎_elim, ◌≡◌, ◌≢◌, ℕ, zero, suc, ◌+◌, ◌*◌, ◌/◌, ◌%◌, ◌<◌, ◌≤◌, Bool, true, false, not, ◌&&◌, ◌||◌, List, []}
+use Rattle.std.proofs.Common.{⊎_elim, ◌≡◌, ◌≢◌, ℕ, zero, suc, ◌+◌, ◌*◌, ◌/◌, ◌%◌, ◌<◌, ◌≤◌, true, false, List, []}
 use Rattle.std.proofs.Common.{◌∷◌, ◌++◌, length-append, length, map, get_or, set, Option, Some, None, slice_get, refl, sym, ap, subst}
 use Rattle.std.proofs.Common.{◌∙◌, ◌↔◌, arith}
-use Rattle.std.specs.Prelude.{◌==◌, nat_lt, nat_eq, All, Contains}
-use Rattle.std.specs.List.{filter, range_with_len}
+use Rattle.std.specs.Prelude.{All, Contains}
 use Rattle.std.proofs.Common.{take, min, length-take}
 use Rattle.std.proofs.lemmas.List.{take-map, get_or-take}
-use Rattle.std.specs.Ordering.{nat_cmp, eq_by_cmp}
-use Rattle.std.specs.Cmp.{nat_cmp_total, unsigned_tied}
-use Rattle.std.specs.FinSet.{FinSet, empty, contains, insert, remove, from_list, same_set, nat_cmp-IsAntisymmetric, contains-empty, contains-insert}
-use Rattle.std.specs.FinSet.{contains-remove}
-use Rattle.std.proofs.lemmas.Bool.{cases_eq, cases_lt, cases_Bool, false_from_ne_true}
+use Rattle.std.specs.Ordering.{nat_cmp}
+use Rattle.std.specs.Cmp.{nat_cmp_total}
+use Rattle.std.specs.FinSet.{FinSet, empty, contains, insert, remove, same_set, nat_cmp-IsAntisymmetric}
+use Rattle.std.proofs.lemmas.Bool.{cases_eq, cases_lt, false_from_ne_true}
 use Rattle.std.proofs.lemmas.List.Elements.{All-contains}
 use Rattle.std.proofs.lemmas.Bool.Decides.{nat_tests}
 use Rattle.std.proofs.lemmas.List.{length-map, map-append, get_or_at, get_or_append_left, get_or-set_same, get_or-set_other, map-set}
 use Rattle.std.proofs.lemmas.Nat.{div_below, mod_below, le-div, div-mul-add, mod-mul-add, div-add-mod'}
-use Rattle.std.proofs.Math.Nat.{mod-add-div, mul_comm}
 use Rattle.wic_scalar.specs.Digits.{is_one}
 use Rattle.wic_scalar.specs.Scalar.{set_of, members_of}
 use Rattle.wic_scalar.proofs.DigitLemmas.{is_one-zero}
 use Rattle.wic_scalar.proofs.MemberLemmas.{contains-set_of, Contains-set_of, members_of-none, none_from_members}
-use Rattle.wic_bitset.proofs.SetFacts.{contains-filter_range, empty_of_none}
+use Rattle.wic_bitset.proofs.SetFacts.{contains-filter_range, empty_of_none, there_after_insert, same_after_insert, gone_after_remove}
+use Rattle.wic_bitset.proofs.SetFacts.{same_after_remove}
 use Rattle.wic_bitset.specs.Words.{has, set_of_words, AreFirstWords, EndsBefore, IsGreatestOfWord, IsWordOf, IsWordEmpty}
-
--- the digits once i is put in
-pub digit_with : (w n m i k : ℕ) → set_of w m ≡ insert (set_of w n) i → k < w → is_one m k ≡ (is_one n k || (k == i))
-digit_with w n m i k put below =
-    let e : contains (set_of w m) k ≡ contains (insert (set_of w n) i) k = ap (λ t. contains t k) put in
-    let c : contains (insert (set_of w n) i) k ≡ (eq_by_cmp nat_cmp k i || contains (set_of w n) k) =
-    contains-insert nat_cmp_total (set_of w n) i k in
-    let t : eq_by_cmp nat_cmp k i ≡ nat_eq k i = unsigned_tied k i in
-    let new = contains-set_of w m k in
-    let old = contains-set_of w n k in
-    grind (arith, nat_tests)
-
--- the digits once i is taken out
-pub digit_less : (w n m i k : ℕ) → set_of w m ≡ remove (set_of w n) i → k < w → is_one m k ≡ (is_one n k && not (k == i))
-digit_less w n m i k put below =
-    let e : contains (set_of w m) k ≡ contains (remove (set_of w n) i) k = ap (λ t. contains t k) put in
-    let c : contains (remove (set_of w n) i) k ≡ (not (eq_by_cmp nat_cmp k i) && contains (set_of w n) k) =
-    contains-remove nat_cmp_total (set_of w n) i k in
-    let t : eq_by_cmp nat_cmp k i ≡ nat_eq k i = unsigned_tied k i in
-    let new = contains-set_of w m k in
-    let old = contains-set_of w n k in
-    grind (arith, nat_tests)
 
 -- a member by its digit
 pub contains_below : (w n k : ℕ) → k < w → contains (set_of w n) k ≡ is_one n k
@@ -87,37 +63,44 @@ contains-set_of_words w words q some = contains-filter_range (has w words) 0 (le
     grind (arith, nat_tests))
     (cases_lt q (length words * w))
 
--- i, at digit j of word k, is put in
-pub set_of_words-insert : (w : ℕ) (words : List ℕ) (k j m i : ℕ) → j < w → k < length words → i ≡ k * w + j
-    → set_of w m ≡ insert (set_of w (get_or words k 0)) j → set_of_words w (set words k m) ≡ insert (set_of_words w words) i
-set_of_words-insert w words k j m i low within at put =
-    let some : 0 < w = omega arith in
-    same_set nat_cmp_total nat_cmp-IsAntisymmetric _ _ (λ q.
-    let new = contains-set_of_words w (set words k m) q some in
-    let old = contains-set_of_words w words q some in
-    let c : contains (insert (set_of_words w words) i) q ≡ (eq_by_cmp nat_cmp q i || contains (set_of_words w words) q) =
-    contains-insert nat_cmp_total (set_of_words w words) i q in
-    let t : eq_by_cmp nat_cmp q i ≡ nat_eq q i = unsigned_tied q i in
-    let b : q % w < w = mod_below q w some in
-    let whole : q % w + w * (q / w) ≡ q = mod-add-div q w in
-    ⊎_elim
-    (λ here.
-    let word : get_or (set words k m) (q / w) 0 ≡ m = ap (λ x. get_or (set words k m) x 0) here ∙ get_or-set_same words k m 0 within in
-    let was : get_or words (q / w) 0 ≡ get_or words k 0 = ap (λ x. get_or words x 0) here in
-    let digit : is_one m (q % w) ≡ (is_one (get_or words k 0) (q % w) || (q % w == j)) =
-    digit_with w (get_or words k 0) m j (q % w) put b in
-    let whole' : q % w + w * k ≡ q = (ap (λ x. q % w + w * x) (sym here)) ∙ whole in
-    let n : has w (set words k m) q ≡ is_one m (q % w) = ap (λ x. is_one x (q % w)) word in
-    let o : has w words q ≡ is_one (get_or words k 0) (q % w) = ap (λ x. is_one x (q % w)) was in
-    let same : nat_eq q i ≡ nat_eq (q % w) j = grind (arith, nat_tests) in
-    grind (arith, nat_tests))
-    (λ apart.
-    let word : has w (set words k m) q ≡ has w words q = ap (λ x. is_one x (q % w)) (get_or-set_other words k (q / w) m 0 apart) in
-    let other : q ≢ i = (λ same. apart (ap (λ x. x / w) (same ∙ at) ∙ div-mul-add k w j low)) in
-    grind (arith, nat_tests))
-    (cases_eq (q / w) k))
+-- ---- word k becomes m
 
--- ---- the three facts that the calls of a compound set stand on
+module _ (w : ℕ) (words : List ℕ) (k m : ℕ) (some : 0 < w) (within : k < length words) where
+  -- a number of the word, now and before
+  here_now : (q : ℕ) → q / w ≡ k → contains (set_of_words w (set words k m)) q ≡ contains (set_of w m) (q % w)
+  here_now q here =
+      let word : get_or (set words k m) (q / w) 0 ≡ m = ap (λ x. get_or (set words k m) x 0) here ∙ get_or-set_same words k m 0 within in
+      contains-set_of_words w (set words k m) q some ∙ ap (λ x. is_one x (q % w)) word
+      ∙ sym (contains_below w m (q % w) (mod_below q w some))
+
+  here_before : (q : ℕ) → q / w ≡ k → contains (set_of_words w words) q ≡ contains (set_of w (get_or words k 0)) (q % w)
+  here_before q here =
+      contains-set_of_words w words q some ∙ ap (λ x. is_one (get_or words x 0) (q % w)) here
+      ∙ sym (contains_below w (get_or words k 0) (q % w) (mod_below q w some))
+
+  -- any other number
+  elsewhere : (q : ℕ) → q / w ≢ k → contains (set_of_words w (set words k m)) q ≡ contains (set_of_words w words) q
+  elsewhere q apart =
+      contains-set_of_words w (set words k m) q some
+      ∙ ap (λ x. is_one x (q % w)) (get_or-set_other words k (q / w) m 0 apart)
+      ∙ sym (contains-set_of_words w words q some)
+
+  -- i alone is in or out otherwise than before, in the word and in the set t
+  changed_one : (t : FinSet nat_cmp) (i : ℕ) → i / w ≡ k → contains (set_of w m) (i % w) ≡ contains t i
+      → ((d : ℕ) → d ≢ i % w → contains (set_of w m) d ≡ contains (set_of w (get_or words k 0)) d)
+      → ((q : ℕ) → q ≢ i → contains t q ≡ contains (set_of_words w words) q) → set_of_words w (set words k m) ≡ t
+  changed_one t i at one digits others = same_set nat_cmp_total nat_cmp-IsAntisymmetric _ _ (λ q. ⊎_elim
+      (λ same. ap (contains (set_of_words w (set words k m))) same ∙ here_now i at ∙ one ∙ ap (contains t) (sym same))
+      (λ apart. ⊎_elim
+      (λ here. here_now q here
+      ∙ digits (q % w) (λ digit. apart (sym (div-add-mod' q w) ∙ ap (λ n. n * w + q % w) (here ∙ sym at) ∙ ap (λ d. i / w * w + d) digit
+      ∙ div-add-mod' i w))
+      ∙ sym (here_before q here) ∙ sym (others q apart))
+      (λ other. elsewhere q other ∙ sym (others q apart))
+      (cases_eq (q / w) k))
+      (cases_eq q i))
+
+-- ---- what the calls of the plain set stand on
 
 module _ {X : Type 0} (f : X → ℕ) where
   pub in_word : (w i : ℕ) (items : List X) (x : X) → 0 < w → slice_get items (i / w) ≡ Some x
@@ -135,46 +118,30 @@ module _ {X : Type 0} (f : X → ℕ) where
   below_length (y ∷ items) zero x found = omega arith
   below_length (y ∷ items) (suc k) x found = let rest = below_length items k x found in omega arith
 
+  -- i is put into its word, or taken out of it
   pub put_in_word : (w i : ℕ) (items : List X) (x y : X) → 0 < w → slice_get items (i / w) ≡ Some x
       → set_of w (f y) ≡ insert (set_of w (f x)) (i % w)
       → set_of_words w (map f (set items (i / w) y)) ≡ insert (set_of_words w (map f items)) i
   put_in_word w i items x y some found put =
-      let whole : i % w + w * (i / w) ≡ i = mod-add-div i w in
-      let turned : w * (i / w) ≡ i / w * w = mul_comm w (i / w) in
-      let at : i ≡ i / w * w + i % w = omega arith in
+      let old = set_of_words w (map f items) in
       ap (set_of_words w) (map-set f items (i / w) y)
-      ∙ set_of_words-insert w (map f items) (i / w) (i % w) (f y) i (mod_below i w some) (below_length items (i / w) x found) at
-      (put ∙ ap (λ n. insert (set_of w n) (i % w)) (sym (map_at f items (i / w) x found)))
+      ∙ changed_one w (map f items) (i / w) (f y) some (below_length items (i / w) x found) (insert old i) i refl
+      (ap (λ s. contains s (i % w)) put ∙ there_after_insert (set_of w (f x)) (i % w) ∙ sym (there_after_insert old i))
+      (λ d apart. ap (λ s. contains s d) put ∙ same_after_insert (set_of w (f x)) (i % w) d apart
+      ∙ ap (λ n. contains (set_of w n) d) (sym (map_at f items (i / w) x found)))
+      (same_after_insert old i)
 
--- i, at digit j of word k, is taken out
-pub set_of_words-remove : (w : ℕ) (words : List ℕ) (k j m i : ℕ) → j < w → k < length words → i ≡ k * w + j
-    → set_of w m ≡ remove (set_of w (get_or words k 0)) j → set_of_words w (set words k m) ≡ remove (set_of_words w words) i
-set_of_words-remove w words k j m i low within at put =
-    let some : 0 < w = omega arith in
-    same_set nat_cmp_total nat_cmp-IsAntisymmetric _ _ (λ q.
-    let new = contains-set_of_words w (set words k m) q some in
-    let old = contains-set_of_words w words q some in
-    let c : contains (remove (set_of_words w words) i) q ≡ (not (eq_by_cmp nat_cmp q i) && contains (set_of_words w words) q) =
-    contains-remove nat_cmp_total (set_of_words w words) i q in
-    let t : eq_by_cmp nat_cmp q i ≡ nat_eq q i = unsigned_tied q i in
-    let b : q % w < w = mod_below q w some in
-    let whole : q % w + w * (q / w) ≡ q = mod-add-div q w in
-    ⊎_elim
-    (λ here.
-    let word : get_or (set words k m) (q / w) 0 ≡ m = ap (λ x. get_or (set words k m) x 0) here ∙ get_or-set_same words k m 0 within in
-    let was : get_or words (q / w) 0 ≡ get_or words k 0 = ap (λ x. get_or words x 0) here in
-    let digit : is_one m (q % w) ≡ (is_one (get_or words k 0) (q % w) && not (q % w == j)) =
-    digit_less w (get_or words k 0) m j (q % w) put b in
-    let whole' : q % w + w * k ≡ q = (ap (λ x. q % w + w * x) (sym here)) ∙ whole in
-    let n : has w (set words k m) q ≡ is_one m (q % w) = ap (λ x. is_one x (q % w)) word in
-    let o : has w words q ≡ is_one (get_or words k 0) (q % w) = ap (λ x. is_one x (q % w)) was in
-    let same : nat_eq q i ≡ nat_eq (q % w) j = grind (arith, nat_tests) in
-    grind (arith, nat_tests))
-    (λ apart.
-    let word : has w (set words k m) q ≡ has w words q = ap (λ x. is_one x (q % w)) (get_or-set_other words k (q / w) m 0 apart) in
-    let other : q ≢ i = (λ same. apart (ap (λ x. x / w) (same ∙ at) ∙ div-mul-add k w j low)) in
-    grind (arith, nat_tests))
-    (cases_eq (q / w) k))
+  pub take_from_word : (w i : ℕ) (items : List X) (x y : X) → 0 < w → slice_get items (i / w) ≡ Some x
+      → set_of w (f y) ≡ remove (set_of w (f x)) (i % w)
+      → set_of_words w (map f (set items (i / w) y)) ≡ remove (set_of_words w (map f items)) i
+  take_from_word w i items x y some found taken =
+      let old = set_of_words w (map f items) in
+      ap (set_of_words w) (map-set f items (i / w) y)
+      ∙ changed_one w (map f items) (i / w) (f y) some (below_length items (i / w) x found) (remove old i) i refl
+      (ap (λ s. contains s (i % w)) taken ∙ gone_after_remove (set_of w (f x)) (i % w) ∙ sym (gone_after_remove old i))
+      (λ d apart. ap (λ s. contains s d) taken ∙ same_after_remove (set_of w (f x)) (i % w) d apart
+      ∙ ap (λ n. contains (set_of w n) d) (sym (map_at f items (i / w) x found)))
+      (same_after_remove old i)
 
 -- no member stands above the words
 pub below_capacity : (w : ℕ) (words : List ℕ) (i : ℕ) → 0 < w → contains (set_of_words w words) i ≡ true → i < length words * w
@@ -188,17 +155,6 @@ below_capacity w words i some there = ⊎_elim
     (cases_lt i (length words * w))
 
 module _ {X : Type 0} (f : X → ℕ) where
-  pub take_from_word : (w i : ℕ) (items : List X) (x y : X) → 0 < w → slice_get items (i / w) ≡ Some x
-      → set_of w (f y) ≡ remove (set_of w (f x)) (i % w)
-      → set_of_words w (map f (set items (i / w) y)) ≡ remove (set_of_words w (map f items)) i
-  take_from_word w i items x y some found put =
-      let whole : i % w + w * (i / w) ≡ i = mod-add-div i w in
-      let turned : w * (i / w) ≡ i / w * w = mul_comm w (i / w) in
-      let at : i ≡ i / w * w + i % w = omega arith in
-      ap (set_of_words w) (map-set f items (i / w) y)
-      ∙ set_of_words-remove w (map f items) (i / w) (i % w) (f y) i (mod_below i w some) (below_length f items (i / w) x found) at
-      (put ∙ ap (λ n. remove (set_of w n) (i % w)) (sym (map_at f items (i / w) x found)))
-
   -- word k, digit by digit
   pub word_of : (w k : ℕ) (items : List X) (x : X) → slice_get items k ≡ Some x → IsWordOf w (set_of_words w (map f items)) k (f x)
   word_of w k items x found j low =

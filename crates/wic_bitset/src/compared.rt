@@ -1,4 +1,4 @@
-//! Equality and hash of sets, which go by the members.
+//! Equality and hash of sets, which go by the members, and their debug text.
 ghost use Rattle.std.specs.Prelude.{◌≡◌, ◌==◌, ◌↔◌, ℕ, nat_eq, IsTrue};
 ghost use Rattle.std.specs.Cmp.{on_equiv, on_per, partial_equiv_from_equiv, unsigned_Decides};
 ghost use Rattle.std.specs.Cmp.Lexicographic.{pointwise, nat_list_eq_equiv};
@@ -7,10 +7,13 @@ ghost use Rattle.std.specs.Hash.{on_Alike, items_Alike, same_Alike};
 ghost use Rattle.wic_bitset.specs.Rising.{rising};
 
 use crate::set::CompoundBitSet;
+use std::fmt;
 use std::hash::{Hash, Hasher};
 use wic_scalar::ScalarBitSetStorage;
 
 /// Two sets are equal exactly where they have the same members, whatever room they have.
+///
+/// Port of the derived `PartialEq`, which compares the words and the cached maximum.
 impl<T: ScalarBitSetStorage> PartialEq for CompoundBitSet<T> {
     ghost eq = { λ s t. pointwise nat_eq (rising s.members) (rising t.members) };
 
@@ -40,7 +43,9 @@ impl<T: ScalarBitSetStorage> Eq for CompoundBitSet<T> {
     ghost laws = { on_equiv (λ s. rising s.members) nat_list_eq_equiv };
 }
 
-/// The number of the members, and then each of them, rising, each as a `usize`.
+/// The number of the members, and then each of them, rising, each as a `usize`: sets that are equal hash alike.
+///
+/// This project's own.
 impl<T: ScalarBitSetStorage> Hash for CompoundBitSet<T> {
     ghost hash_input = { λ s. fed.slice fed.usize (rising s.members) };
 
@@ -48,9 +53,18 @@ impl<T: ScalarBitSetStorage> Hash for CompoundBitSet<T> {
 
     fn hash<H: Hasher>(&self, state: &mut H) {
         state.write_usize(self.len());
-        let mut rest = self.iter();
-        while let Some(x) = rest.next() {
+        for x in self {
             x.hash(state);
         }
+    }
+}
+
+/// The members in braces after the type's name, as in `CompoundBitSet {444, 555}`.
+///
+/// Port of `impl Debug for CompoundBitSet`.
+impl<T: ScalarBitSetStorage> fmt::Debug for CompoundBitSet<T> {
+    fn fmt<W: fmt::Write>(&self, f: &mut fmt::Formatter<W>) -> fmt::Result {
+        f.write_str("CompoundBitSet ")?;
+        f.debug_set().entries(self.iter()).finish()
     }
 }

@@ -14,7 +14,7 @@ ghost use Rattle.wic_bitset.specs.Words.{AreWords, EndsBefore, IsWordEmpty};
 
 use crate::growth::grown_count;
 use crate::iter::Iter;
-use crate::scalars::IterScalars;
+use crate::iter_scalars::IterScalars;
 use crate::steps::Steps;
 use crate::store::Store;
 use crate::store_iter::StoreIter;

@@ -1,4 +1,4 @@
-use Rattle.std.proofs.Common.{◌≡◌, ap, sym, subst, ◌∙◌}
+use Rattle.std.proofs.Common.{ap, sym, subst, ◌∙◌}
 use Rattle.std.specs.Int.{div_ceil}
 use Rattle.wic_bitset.specs.Words.{EndsBefore}
 use Rattle.wic_bitset.proofs.SummaryFacts.{summary_ends, max_through_summary, none_through_summary}

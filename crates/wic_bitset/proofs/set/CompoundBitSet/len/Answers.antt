@@ -1,6 +1,5 @@
-use Rattle.std.proofs.Common.{ℕ, ◌≡◌, ◌<◌, ◌≤◌, length, length-append, sym, ap, subst, ◌∙◌, arith}
+use Rattle.std.proofs.Common.{ℕ, ◌<◌, ◌≤◌, length, length-append, sym, ap, subst, ◌∙◌, arith}
 use Rattle.std.specs.Prelude.{All}
-use Rattle.std.specs.FinSet.{len}
 use Rattle.std.specs.List.{flat_map}
 use Rattle.std.proofs.lemmas.List.Elements.{All-head, All-tail}
 use Rattle.wic_bitset.specs.Rising.{rising, word_members}
@@ -22,7 +21,8 @@ loop-k-init g c =
       (
         omega (arith, few, length-rising s),
         subst (All (λ k. k < c.args.self.now.words)) (sym filled)
-            (subst (λ v. All (λ k. k < v.words) (rising (filled_words w v.members))) c.self.view_is (All-filled w _ _ c.self.invariant.0)),
+            (subst (λ v. All (λ k. k < v.words) (rising (filled_words w v.members))) c.self.view_is
+            (All-filled w _ _ c.self.invariant.0)),
       ),
     )
 

@@ -3,7 +3,7 @@ use Rattle.std.specs.Int.{div_ceil}
 use Rattle.std.specs.FinSet.{contains}
 use Rattle.std.specs.List.{flat_map}
 use Rattle.std.proofs.lemmas.Grind.{flat_map-append}
-use Rattle.wic_bitset.specs.Rising.{members_between, rising, word_members}
+use Rattle.wic_bitset.specs.Rising.{members_between, word_members}
 use Rattle.wic_bitset.specs.Summary.{block_words, filled_words}
 use Rattle.wic_bitset.proofs.BetweenFacts.{between-last_word}
 use Rattle.wic_bitset.proofs.ByWordFacts.{by_words}
@@ -37,7 +37,13 @@ returns-in_err-push_block-clause-looks g c =
     let size = c.self.invariant.0.size ∙ ap (λ v. div_ceil v.words w) c.self.view_is in
     let looks = c.in_err-push_block.ensures.looks in
     let before = c.loop-s.invariant.1 in
-    omega (arith, long, most, size, length-append (members_between filled 0 (c.loop-s.s * w)) (block_words w c.args.self.now.members c.loop-s.s))
+    omega (
+      arith,
+      long,
+      most,
+      size,
+      length-append (members_between filled 0 (c.loop-s.s * w)) (block_words w c.args.self.now.members c.loop-s.s),
+    )
 
 pub returns-clause-looks : goal.returns-clause-looks
 returns-clause-looks g c =

@@ -1,4 +1,4 @@
-use Rattle.std.proofs.Common.{◌≡◌, ◌+◌, ◌++◌}
+use Rattle.std.proofs.Common.{◌≡◌, ◌++◌}
 use Rattle.wic_bitset.specs.Rising.{word_members}
 use Rattle.wic_bitset.proofs.set.CompoundBitSet.push_word.Given as goal
 

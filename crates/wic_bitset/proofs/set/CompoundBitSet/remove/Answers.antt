@@ -1,4 +1,4 @@
-use Rattle.std.proofs.Common.{◌≡◌, ◌/◌, ◌+◌, ap, sym, subst, ◌∙◌}
+use Rattle.std.proofs.Common.{◌/◌, ◌+◌, sym, subst, ◌∙◌}
 use Rattle.std.specs.FinSet.{remove}
 use Rattle.wic_bitset.specs.Greatest.{IsMax}
 use Rattle.wic_bitset.specs.Words.{EndsBefore}

@@ -19,6 +19,7 @@ pub returns-in-None : goal.returns-in-None
 returns-in-None g c =
     let w = g.T.ScalarBitSetStorage.width in
     let at = c.width-width.ensures.value in
-    sym (in_no_word (λ s. g.T.ScalarBitSetStorage.number s.0) w c.args.i c.self.inside.words.items g.T.ScalarBitSetStorage.width_within.positive
+    sym (in_no_word (λ s. g.T.ScalarBitSetStorage.number s.0) w c.args.i c.self.inside.words.items
+    g.T.ScalarBitSetStorage.width_within.positive
     (subst (λ n. slice_get c.self.inside.words.items (c.args.i / n) ≡ None) at (sym c.in-None.ensures.item)))
     ∙ ap (λ v. contains v.members c.args.i) c.self.view_is

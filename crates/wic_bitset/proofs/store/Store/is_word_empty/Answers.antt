@@ -15,7 +15,8 @@ pub returns-in-None : goal.returns-in-None
 returns-in-None g c =
     let w = g.T.ScalarBitSetStorage.width in
     subst (λ v. IsTrue true ↔ IsWordEmpty w v.members c.args.k) c.self.view_is (
-      λ _. no_word_is_empty (λ s. g.T.ScalarBitSetStorage.number s.0) w c.args.k c.self.inside.words.items g.T.ScalarBitSetStorage.width_within.positive
+      λ _. no_word_is_empty (λ s. g.T.ScalarBitSetStorage.number s.0) w c.args.k c.self.inside.words.items
+          g.T.ScalarBitSetStorage.width_within.positive
           (sym c.in-None.ensures.item),
       λ _. refl,
     )

@@ -1,4 +1,4 @@
-use Rattle.std.proofs.Common.{◌≡◌, ◌+◌, ◌-◌, sym, subst, arith}
+use Rattle.std.proofs.Common.{◌≡◌, ◌+◌, ◌-◌, subst, arith}
 use Rattle.wic_bitset.specs.Words.{EndsBefore}
 use Rattle.wic_bitset.proofs.GreatestFacts.{ends-none, greatest_of_last_word}
 use Rattle.wic_bitset.proofs.store.Store.max_within.Goals as goal

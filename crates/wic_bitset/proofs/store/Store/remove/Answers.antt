@@ -36,7 +36,8 @@ returns-else-word-len-clause-present g c =
     let at = c.width-width.ensures.value in
     let past : length c.self.inside.words.items ≤ c.args.i / w =
     subst (λ n. length c.self.inside.words.items ≤ c.args.i / n) at (omega arith) in
-    sym (in_no_word (λ s. g.T.ScalarBitSetStorage.number s.0) w c.args.i c.self.inside.words.items g.T.ScalarBitSetStorage.width_within.positive
+    sym (in_no_word (λ s. g.T.ScalarBitSetStorage.number s.0) w c.args.i c.self.inside.words.items
+    g.T.ScalarBitSetStorage.width_within.positive
     (none_past _ _ past))
     ∙ ap (λ v. contains v.members c.args.i) c.self.view_is
 

@@ -1,6 +1,5 @@
 use Rattle.std.proofs.Common.{◌≡◌, ◌*◌, ◌≤◌, ap, length, arith}
 use Rattle.std.proofs.Math.Nat.{mul-le-mul}
-use Rattle.wic_bitset.specs.Words.{greatest_start}
 use Rattle.wic_bitset.proofs.store.Store.start.Goals as goal
 
 pub returns-clause-small : goal.returns-clause-small

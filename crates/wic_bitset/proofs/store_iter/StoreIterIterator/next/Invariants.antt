@@ -1,4 +1,4 @@
-use Rattle.std.proofs.Common.{◌≡◌, ◌+◌, ◌-◌, ◌*◌, ◌≤◌, ◌++◌, length}
+use Rattle.std.proofs.Common.{◌≡◌, ◌-◌, ◌*◌, ◌≤◌, ◌++◌}
 use Rattle.wic_bitset.specs.Rising.{members_between}
 use Rattle.wic_bitset.proofs.store_iter.StoreIterIterator.next.Given as goal
 

@@ -1,0 +1,22 @@
+use Rattle.std.proofs.Common.{◌≡◌, ◌*◌, ◌<◌, Result, Ok, Err, true, sym, ap, subst, ◌∙◌}
+use Rattle.std.specs.Prelude.{IsOk, OnOk}
+use Rattle.std.specs.FinSet.{contains, insert}
+use Rattle.wic_bitset.proofs.SetFacts.{insert-remove, same_compound}
+use Rattle.wic_bitset.proofs.callers.leave_for_a_while.Goals as goal
+
+-- what is said on Ok, where it is Ok
+on_ok : {T E P : Type 0} (r : Result T E) → IsOk r → OnOk r P → P
+on_ok (Ok x) ok p = p
+on_ok (Err e) ok p = absurd (cc)
+
+pub returns-then-contains : goal.returns-then-contains
+returns-then-contains g c =
+    let s = c.args.set.now.members in
+    let i = c.args.i in
+    let there : contains s i ≡ true = sym c.contains.ensures.member ∙ c.if-contains.true in
+    let below = subst (λ n. i < n * g.T.ScalarBitSetStorage.width) (sym c.remove.ensures.words)
+    (c.contains.ensures.below c.if-contains.true) in
+    same_compound _ _
+    (on_ok c.insert.result (c.insert.ensures.never_refused_below below) c.insert.ensures.members
+    ∙ ap (λ t. insert t i) c.remove.ensures.members ∙ insert-remove s i there)
+    (c.insert.ensures.words_kept_below below ∙ c.remove.ensures.words)
