@@ -1,2 +1,5 @@
 -- What contracts see of collecting.
 pub mod Collect
+pub mod Collected
+pub mod Errors
+pub mod Iterates
