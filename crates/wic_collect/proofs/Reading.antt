@@ -41,7 +41,7 @@ module _ {S X E : Type 0} (steps : S → Option X → S → Type 0) (as_result :
     yields_one_more s t u values x read step = Yields-more steps s values t x u (yields_from_reads s t values read) step
 
 module _ {S T E : Type 0} (steps : S → Option (Result T E) → S → Type 0) (as_result : Result T E → Result T E)
-  (as_is : (x : Result T E) → as_result x ≡ x)
+    (as_is : (x : Result T E) → as_result x ≡ x)
   where
     same_items : (items : List (Result T E)) → map as_result items ≡ items
     same_items [] = refl

@@ -1,5 +1,5 @@
 -- The texts and the content of the errors of collecting.
-use Rattle.std.specs.Prelude.{◌≡◌, ℕ, List, codes}
+use Rattle.std.specs.Prelude.{⊤, ◌≡◌, ℕ, List, codes}
 use Rattle.wic_collect.specs.declared.errors.BoxedSliceFromFallibleIterError.{BoxedSliceFromFallibleIterError}
 use Rattle.wic_collect.specs.declared.errors.BoxedSliceFromFallibleIterError.TheVariants as fallible
 use Rattle.wic_collect.specs.declared.errors.TooFewItemsOrOom.{TooFewItemsOrOom}
@@ -19,3 +19,13 @@ with_len_text (with_len.Oom oom) = codes "Failed to allocate space for the boxed
 abbrev pub fallible_text : {E : Type 0} → BoxedSliceFromFallibleIterError E → List ℕ
 fallible_text (fallible.IterError e) = codes "The fallible iterator produced an error"
 fallible_text (fallible.Oom oom) = codes "Failed to allocate space for the boxed slice"
+
+-- this holds where there were too few items
+abbrev pub OnTooFewItems : Type 0 → TooFewItemsOrOom → Type 0
+OnTooFewItems P (with_len.TooFewItems few) = P
+OnTooFewItems P (with_len.Oom oom) = ⊤
+
+-- this holds of the item that was an error, where it was one
+abbrev pub OnIterError : {E : Type 0} → (E → Type 0) → BoxedSliceFromFallibleIterError E → Type 0
+OnIterError P (fallible.IterError e) = P e
+OnIterError P (fallible.Oom oom) = ⊤

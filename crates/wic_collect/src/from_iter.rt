@@ -81,6 +81,24 @@ impl<T: Drop> TryFromIterator<T, OutOfMemory> for BoxedSlice<T> {
     }
 }
 
+/// The values of all items. The first item that is an `Err` is answered, and no more are read.
+impl<T: Drop, E: From<OutOfMemory> + Drop> TryFromIterator<Result<T, E>, E> for BoxedSlice<T> {
+    ghost has = { λ s items. items ≡ map Ok s };
+
+    ghost fails = { EndsInError E.from_gives };
+
+    fn try_from_iter<I: Iterator<Item = Result<T, E>>>(
+        alloc: Global,
+        iter: I,
+    ) -> Result<BoxedSlice<T>, E> {
+        let items: TryVec<T> = TryFromIterator::<Result<T, E>, E>::try_from_iter(alloc, iter)?;
+        match into_boxed_slice(items) {
+            Ok(slice) => Ok(slice),
+            Err(oom) => Err(E::from(oom)),
+        }
+    }
+}
+
 /// A collection of all items of `iter`, in order, as `B::try_from_iter` makes it.
 ///
 /// A port of `TryCollect::try_collect`.

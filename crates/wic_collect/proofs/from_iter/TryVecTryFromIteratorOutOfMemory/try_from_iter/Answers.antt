@@ -6,6 +6,9 @@ pub returns-in-Ended : goal.returns-in-Ended
 returns-in-Ended g c =
     let read = c.in-Ended.ensures.items in
     record {
-      items = (read.0, drains_from_reads g.I.Iterator.next_gives (λ x. Ok x) (λ x. refl) c.args.iter read.0 read.2.0,
-          read.1 ∙ ap (λ l. l ++ read.0) c.new-items.ensures.empty);
+      items = (
+        read.0,
+        drains_from_reads g.I.Iterator.next_gives (λ x. Ok x) (λ x. refl) c.args.iter read.0 read.2.0,
+        read.1 ∙ ap (λ l. l ++ read.0) c.new-items.ensures.empty,
+      );
     }
