@@ -5,6 +5,7 @@ mod array;
 mod boxed;
 mod builder;
 mod collect;
+mod cow;
 mod errors;
 mod extend;
 mod from_iter;
@@ -18,6 +19,7 @@ pub use boxed::{
     new_boxed_slice_from_iter_with_len,
 };
 pub use builder::{BoxedSliceBuilder, boxed_slice_write_iter};
+pub use cow::{TryCow, TryCowOf, TryCowSlice, TryCowStr, TryToOwned};
 pub use errors::{BoxedSliceFromFallibleIterError, TooFewItems, TooFewItemsOrOom};
 pub use extend::TryExtend;
 pub use from_iter::{TryFromIterator, try_collect};
