@@ -2,7 +2,12 @@
 ghost use Rattle.std.specs.Prelude.{◌≡◌, IsOk, IfOk, OnErr};
 ghost use Rattle.std.specs.Borrow.{sem};
 ghost use Rattle.std.specs.List.{AllZip};
-ghost use Rattle.wic_collect.specs.Cow.{IsBorrowed, HasContent};
+ghost use Rattle.wic_collect.specs.Cow.{IsBorrowed, HasContent, SameCow, NeverRefused};
+ghost use Rattle.wic_collect.specs.declared.cow.TryCowOf.TheVariants.{Borrowed};
+
+mod slice;
+mod text;
+mod value;
 
 use std::alloc::Global;
 use wic_base::OutOfMemory;
@@ -103,6 +108,29 @@ impl<R: TryToOwned<O>, O: Drop> TryCowOf<R, O> {
         match self {
             TryCowOf::Borrowed(reference) => reference.try_to_owned(alloc),
             TryCowOf::Owned(owned) => Ok(owned),
+        }
+    }
+}
+
+/// The borrowed form. A port of the `From` of references for `TryCow`.
+impl<R: TryToOwned<O>, O> From<R> for TryCowOf<R, O> {
+    ghost from_gives = { λ r cow. cow ≡ Borrowed r };
+
+    fn from(reference: R) -> TryCowOf<R, O> {
+        TryCowOf::Borrowed(reference)
+    }
+}
+
+/// A copy borrows the same, or owns the same content. It is never refused where the content is borrowed.
+impl<R: TryToOwned<O> + Drop, O: TryClone> TryClone for TryCowOf<R, O> {
+    ghost same = { SameCow (λ r s. r ≡ s) O.same };
+
+    ghost never_refused = { NeverRefused O.never_refused };
+
+    fn try_clone(&self, alloc: Global) -> Result<TryCowOf<R, O>, OutOfMemory> {
+        match self {
+            TryCowOf::Borrowed(reference) => Ok(TryCowOf::Borrowed(*reference)),
+            TryCowOf::Owned(owned) => Ok(TryCowOf::Owned(owned.try_clone(alloc)?)),
         }
     }
 }
