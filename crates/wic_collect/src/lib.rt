@@ -26,3 +26,6 @@ pub use from_iter::{TryFromIterator, try_collect};
 pub use owned::{slice_to_owned, str_to_owned};
 pub use slice::{BoxedSlice, into_boxed_slice};
 pub use text::{BoxedStr, into_boxed_str};
+
+#[cfg(test)]
+mod tests;
