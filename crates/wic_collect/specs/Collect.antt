@@ -21,7 +21,7 @@ module _ {S X T E : Type 0} (steps : S → Option X → S → Type 0) (as_result
   -- why no more than these values of s were put into a vector, which is now v and was to have so many at most
   abbrev pub IsStoppedBy : Option ℕ → S → List T → TryVec T → Stop E → Type 0
   IsStoppedBy limit s values v Full = ((t : S) × Reads s values t) × (limit ≡ Some (length v.items))
-  IsStoppedBy limit s values v Ended = ReadsAll s values
+  IsStoppedBy limit s values v Ended = ReadsAll s values × IfSome limit (λ most. length v.items < most)
   IsStoppedBy limit s values v (Error e) = ReadsThen s values (λ r. r ≡ Err e)
   IsStoppedBy limit s values v (Refused oom) =
       ReadsThen s values IsOk × (length v.items ≡ v.capacity) × IfSome limit (λ most. length v.items < most)

@@ -1,2 +1,7 @@
 -- What contracts see of collecting.
 pub mod Collect
+pub mod Collected
+pub mod Cow
+pub mod CowLends
+pub mod Errors
+pub mod Iterates

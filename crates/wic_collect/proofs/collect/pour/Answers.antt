@@ -11,6 +11,9 @@ loop-limit-preserved g c =
       ready = search rules;
       within = grind (arith, common_steps);
       capacity = omega (arith, put.capacity_never_falls, at.capacity);
-      read = (at.read.0 ++ c.in-Ok.value ∷ [], put.last ∙ ap (λ l. l ++ c.in-Ok.value ∷ []) at.read.1 ∙ append_assoc _ at.read.0 _,
-          reads_more g.I.Iterator.next_gives g.X.IntoResult.as_result c.args.iter c.loop-limit.iter c.next.new.self at.read.0 c.in-Some.item c.in-Ok.value at.read.2 c.in-Some.ensures.steps (sym c.into_result.ensures ∙ c.in-Ok.is));
+      read = (
+        at.read.0 ++ c.in-Ok.value ∷ [],
+        put.last ∙ ap (λ l. l ++ c.in-Ok.value ∷ []) at.read.1 ∙ append_assoc _ at.read.0 _,
+        reads_more g.I.Iterator.next_gives g.X.IntoResult.as_result c.args.iter c.loop-limit.iter c.next.new.self at.read.0 c.in-Some.item c.in-Ok.value at.read.2 c.in-Some.ensures.steps (sym c.into_result.ensures ∙ c.in-Ok.is),
+      );
     }

@@ -1,0 +1,74 @@
+//! Boxed slices of the items of an iterator.
+ghost use Rattle.std.specs.Prelude.{◌≡◌, ◌<◌, ◌∷◌, [], ◌++◌, List, Ok, Err, map, length, IfOk, IfErr};
+ghost use Rattle.std.specs.Iterator.{Yields, Drains};
+ghost use Rattle.wic_collect.specs.Errors.{OnTooFewItems, OnIterError};
+ghost use Rattle.wic_collect.specs.Iterates.{IsReady, BecomesOne};
+
+use crate::builder::{BoxedSliceBuilder, boxed_slice_write_iter};
+use crate::collect::{Stop, pour};
+use crate::errors::{BoxedSliceFromFallibleIterError, TooFewItemsOrOom};
+use crate::from_iter::TryFromIterator;
+use crate::slice::{BoxedSlice, into_boxed_slice};
+use std::alloc::Global;
+use wic_base::OutOfMemory;
+use wic_vec::TryVec;
+
+/// The slice of all items of `iter`, in order.
+///
+/// A port of `wasmtime_internal_core::alloc::new_boxed_slice_from_iter`.
+pub fn new_boxed_slice_from_iter<T: Drop, I: IntoIterator<Item = T>>(
+    alloc: Global,
+    iter: I,
+) -> Result<BoxedSlice<T>, OutOfMemory>
+    requires ready { IsReady I.into_iter_gives I.IntoIter.can_next iter }
+    ensures items { IfOk result (λ s. BecomesOne I.into_iter_gives iter (λ it. Drains I.IntoIter.next_gives it s)) }
+{
+    TryFromIterator::<T, OutOfMemory>::try_from_iter(alloc, iter.into_iter())
+}
+
+/// The slice of the first `len` items of `iter`, in order; no more are read. `TooFewItems` comes exactly where the items
+/// end before, and want of memory before any item is read.
+///
+/// A port of `wasmtime_internal_core::alloc::new_boxed_slice_from_iter_with_len`.
+pub fn new_boxed_slice_from_iter_with_len<T: Drop, I: IntoIterator<Item = T> + Drop>(
+    alloc: Global,
+    len: usize,
+    iter: I,
+) -> Result<BoxedSlice<T>, TooFewItemsOrOom>
+    requires ready { IsReady I.into_iter_gives I.IntoIter.can_next iter }
+    ensures items { IfOk result (λ s. (length s ≡ len) × BecomesOne I.into_iter_gives iter
+        (λ it. (t : I.IntoIter) × Yields I.IntoIter.next_gives it s t)) }
+    ensures too_few { IfErr result (OnTooFewItems (BecomesOne I.into_iter_gives iter
+        (λ it. (items : List T) × Drains I.IntoIter.next_gives it items × (length items < len)))) }
+{
+    let builder = BoxedSliceBuilder::new(alloc, len)?;
+    match boxed_slice_write_iter(builder, iter) {
+        Ok(slice) => Ok(slice),
+        Err(few) => Err(TooFewItemsOrOom::TooFewItems(few)),
+    }
+}
+
+/// The slice of the values of all items of `iter`, in order. The first item that is an `Err` is answered as `IterError`,
+/// and no more are read.
+///
+/// A port of `wasmtime_internal_core::alloc::new_boxed_slice_from_fallible_iter`.
+pub fn new_boxed_slice_from_fallible_iter<T: Drop, E: Drop, I: IntoIterator<Item = Result<T, E>>>(
+    alloc: Global,
+    iter: I,
+) -> Result<BoxedSlice<T>, BoxedSliceFromFallibleIterError<E>>
+    requires ready { IsReady I.into_iter_gives I.IntoIter.can_next iter }
+    ensures items { IfOk result (λ s. BecomesOne I.into_iter_gives iter (λ it. Drains I.IntoIter.next_gives it (map Ok s))) }
+    ensures first_error { IfErr result (OnIterError (λ e. BecomesOne I.into_iter_gives iter (λ it. (values : List T)
+        × (t : I.IntoIter) × Yields I.IntoIter.next_gives it (map Ok values ++ Err e ∷ []) t))) }
+{
+    let mut items = TryVec::new(alloc);
+    match pour::<T, E, Result<T, E>, I::IntoIter>(&mut items, None, iter.into_iter()) {
+        Stop::Ended => match into_boxed_slice(items) {
+            Ok(slice) => Ok(slice),
+            Err(oom) => Err(BoxedSliceFromFallibleIterError::Oom(oom)),
+        },
+        Stop::Error(error) => Err(BoxedSliceFromFallibleIterError::IterError(error)),
+        Stop::Refused(oom) => Err(BoxedSliceFromFallibleIterError::Oom(oom)),
+        Stop::Full => unreachable!(),
+    }
+}

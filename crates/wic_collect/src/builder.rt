@@ -1,0 +1,121 @@
+//! A slice that is made item by item.
+ghost use Rattle.std.specs.Prelude.{◌≡◌, ◌+◌, ◌<◌, ◌≤◌, ◌∷◌, [], ◌++◌, List, length, IsOk, IfOk, OnErr};
+ghost use Rattle.std.specs.Iterator.{Yields, Drains};
+ghost use Rattle.wic_collect.specs.Iterates.{IsReady, BecomesOne};
+
+use crate::collect::{Stop, pour};
+use crate::errors::TooFewItems;
+use crate::slice::BoxedSlice;
+use std::alloc::Global;
+use std::marker::Model;
+use wic_base::OutOfMemory;
+use wic_vec::TryVec;
+
+/// A slice of a stated length that is made item by item.
+///
+/// A contract sees the items so far, and the stated length as `capacity`. A port of
+/// `wasmtime_internal_core::alloc::BoxedSliceBuilder`.
+#[derive(Drop)]
+pub struct BoxedSliceBuilder<T> {
+    items: TryVec<T>,
+    len: usize,
+}
+
+impl<T> Model for BoxedSliceBuilder<T> {
+    ghost use Rattle.std.specs.Prelude.{◌≤◌, length};
+    ghost use Rattle.wic_vec.specs.TryVec.{TryVec as Sequence, try_vec_code};
+
+    ghost Value = { Sequence T };
+
+    ghost coded = { try_vec_code T.code };
+
+    ghost view = { λ b. record { items = b.items.items; capacity = b.len } };
+
+    ghost invariant = { λ b. (length b.items.items ≤ b.len) × (b.len ≤ b.items.capacity) };
+}
+
+impl<T> BoxedSliceBuilder<T> {
+    /// A builder of a slice of `len` items, of which it has none yet. A length of 0 is never refused.
+    ///
+    /// A port of `BoxedSliceBuilder::new`.
+    pub fn new(alloc: Global, len: usize) -> Result<BoxedSliceBuilder<T>, OutOfMemory>
+        ensures empty { IfOk result (λ b. b.items ≡ []) }
+        ensures capacity { IfOk result (λ b. b.capacity ≡ len) }
+        ensures zero_never_refused { len ≡ 0 → IsOk result }
+    {
+        let items = TryVec::with_capacity(alloc, len)?;
+        Ok(BoxedSliceBuilder { items, len })
+    }
+
+    /// How many items there are so far. A port of `BoxedSliceBuilder::init_len`.
+    pub fn init_len(&self) -> usize
+        ensures length { result ≡ length self.now.items }
+        ensures within { result ≤ self.now.capacity }
+    {
+        self.items.len()
+    }
+
+    /// How many items the slice is to have. A port of `BoxedSliceBuilder::capacity`.
+    pub fn capacity(&self) -> usize
+        ensures capacity { result ≡ self.now.capacity }
+        ensures holds_all { length self.now.items ≤ result }
+    {
+        self.len
+    }
+
+    /// Puts `value` behind the items so far. It takes no memory.
+    ///
+    /// A port of `BoxedSliceBuilder::push`, which answers want of memory where there is no place.
+    pub fn push(&mut self, value: T)
+        requires { length self.old.items < self.old.capacity }
+        ensures last { self.new.items ≡ self.old.items ++ value ∷ [] }
+        ensures capacity_stays { self.new.capacity ≡ self.old.capacity }
+    {
+        self.items.push_reserved(value);
+    }
+
+    /// Makes the stated length the number of items so far. It is never refused.
+    ///
+    /// A port of `BoxedSliceBuilder::shrink_to_fit`.
+    pub fn shrink_to_fit(&mut self) -> Result<(), OutOfMemory>
+        ensures same_items { self.new.items ≡ self.old.items }
+        ensures capacity { self.new.capacity ≡ length self.new.items }
+        ensures never_refused { IsOk result }
+    {
+        self.items.shrink_to_fit()?;
+        self.len = self.items.len();
+        Ok(())
+    }
+
+    /// The slice of the items, which are as many as was stated. It takes no memory.
+    ///
+    /// A port of `BoxedSliceBuilder::finish`, which panics where there are fewer.
+    pub fn finish(self) -> BoxedSlice<T>
+        requires { length self.items ≡ self.capacity }
+        ensures items { result ≡ self.items }
+    {
+        BoxedSlice::of(self.items)
+    }
+}
+
+/// Fills the builder up with the first items of `iter`. No more are read than it has places for, and it takes no memory.
+/// `TooFewItems` comes exactly where the items end before: then those of the builder are dropped.
+///
+/// A port of `wasmtime_internal_core::alloc::boxed_slice_write_iter`.
+pub fn boxed_slice_write_iter<T: Drop, I: IntoIterator<Item = T>>(
+    builder: BoxedSliceBuilder<T>,
+    iter: I,
+) -> Result<BoxedSlice<T>, TooFewItems>
+    requires ready { IsReady I.into_iter_gives I.IntoIter.can_next iter }
+    ensures items { IfOk result (λ s. (length s ≡ builder.capacity) × BecomesOne I.into_iter_gives iter
+        (λ it. (more : List T) × (t : I.IntoIter) × Yields I.IntoIter.next_gives it more t × (s ≡ builder.items ++ more))) }
+    ensures too_few { OnErr result (BecomesOne I.into_iter_gives iter
+        (λ it. (more : List T) × Drains I.IntoIter.next_gives it more × (length builder.items + length more < builder.capacity))) }
+{
+    let BoxedSliceBuilder { mut items, len } = builder;
+    match pour::<T, OutOfMemory, T, I::IntoIter>(&mut items, Some(len), iter.into_iter()) {
+        Stop::Full => Ok(BoxedSlice::of(items)),
+        Stop::Ended => Err(TooFewItems),
+        Stop::Error(_) | Stop::Refused(_) => unreachable!(),
+    }
+}

@@ -1,0 +1,45 @@
+//! Items put behind what a collection has.
+ghost use Rattle.std.specs.Prelude.{◌≡◌, ◌∷◌, [], ◌++◌, ℕ, List, length, MatchResult};
+ghost use Rattle.std.specs.Iterator.{Yields, Drains};
+ghost use Rattle.wic_vec.specs.TryVec.{HasRoomFor};
+ghost use Rattle.wic_collect.specs.Iterates.{IsReady, BecomesOne};
+
+use crate::collect::{Stop, pour};
+use wic_base::OutOfMemory;
+use wic_vec::TryVec;
+
+/// A collection that items can be put into, unless memory is wanting.
+///
+/// A port of `wasmtime_internal_core::alloc::TryExtend`.
+pub trait TryExtend<T> {
+    // Items put into the first one make it the second one.
+    ghost extends: { Self → List T → Self → Type 0 };
+    // So many more items fit with no request for memory.
+    ghost has_room: { Self → ℕ → Type 0 };
+
+    /// Puts the items of `iter` behind what is there, in order. It is refused only where there is no room for all items
+    /// that were read: then those before the last one read were put there, and no more are read.
+    ///
+    /// A port of `TryExtend::try_extend`.
+    fn try_extend<I: IntoIterator<Item = T>>(&mut self, iter: I) -> Result<(), OutOfMemory>
+        requires ready { IsReady I.into_iter_gives I.IntoIter.can_next iter }
+        ensures items { BecomesOne I.into_iter_gives iter (λ it. (items : List T) × extends self.old items self.new
+            × MatchResult result (λ _. Drains I.IntoIter.next_gives it items)
+            (λ _. (x : T) × (t : I.IntoIter) × Yields I.IntoIter.next_gives it (items ++ x ∷ []) t
+            × ¬ (has_room self.old (length (items ++ x ∷ []))))) };
+}
+
+/// The items follow the elements.
+impl<T: Drop> TryExtend<T> for TryVec<T> {
+    ghost extends = { λ v items w. w.items ≡ v.items ++ items };
+
+    ghost has_room = { HasRoomFor };
+
+    fn try_extend<I: IntoIterator<Item = T>>(&mut self, iter: I) -> Result<(), OutOfMemory> {
+        match pour::<T, OutOfMemory, T, I::IntoIter>(self, None, iter.into_iter()) {
+            Stop::Ended => Ok(()),
+            Stop::Refused(oom) => Err(oom),
+            Stop::Full | Stop::Error(_) => unreachable!(),
+        }
+    }
+}

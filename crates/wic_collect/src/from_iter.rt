@@ -1,0 +1,114 @@
+//! Collections made of the items of an iterator.
+ghost use Rattle.std.specs.Prelude.{⊤, ◌≡◌, ◌∷◌, [], ◌++◌, ◌⊎◌, List, Ok, Err, map, MatchResult};
+ghost use Rattle.std.specs.Iterator.{Yields, Drains};
+ghost use Rattle.wic_collect.specs.Collected.{EndsInError};
+
+use crate::collect::{Stop, pour};
+use crate::slice::{BoxedSlice, into_boxed_slice};
+use std::alloc::Global;
+use wic_base::OutOfMemory;
+use wic_vec::TryVec;
+
+/// A collection that can be made of items, unless memory is wanting or an item is an error.
+///
+/// A port of `wasmtime_internal_core::alloc::TryFromIterator`.
+pub trait TryFromIterator<T, E> {
+    // It was made of these items.
+    ghost has: { Self → List T → Type 0 };
+    // After these items, of which the last one may be at fault, this error may be answered.
+    ghost fails: { List T → E → Type 0 };
+
+    /// A collection of all items of `iter`, in order.
+    ///
+    /// A port of `TryFromIterator::try_from_iter`.
+    fn try_from_iter<I: Iterator<Item = T>>(alloc: Global, iter: I) -> Result<Self, E>
+        requires ready { I.can_next iter }
+        ensures items { MatchResult result (λ made. (items : List T) × Drains I.next_gives iter items × has made items)
+            (λ e. (items : List T) × (t : I) × Yields I.next_gives iter items t × fails items e) };
+}
+
+/// All items. Want of memory may come after any of them.
+impl<T: Drop> TryFromIterator<T, OutOfMemory> for TryVec<T> {
+    ghost has = { λ v items. v.items ≡ items };
+
+    ghost fails = { λ _ _. ⊤ };
+
+    fn try_from_iter<I: Iterator<Item = T>>(
+        alloc: Global,
+        iter: I,
+    ) -> Result<TryVec<T>, OutOfMemory> {
+        let mut items = TryVec::new(alloc);
+        match pour::<T, OutOfMemory, T, I>(&mut items, None, iter) {
+            Stop::Ended => Ok(items),
+            Stop::Refused(oom) => Err(oom),
+            Stop::Full | Stop::Error(_) => unreachable!(),
+        }
+    }
+}
+
+/// The values of all items. The first item that is an `Err` is answered, and no more are read.
+impl<T: Drop, E: From<OutOfMemory> + Drop> TryFromIterator<Result<T, E>, E> for TryVec<T> {
+    ghost has = { λ v items. items ≡ map Ok v.items };
+
+    ghost fails = { EndsInError E.from_gives };
+
+    fn try_from_iter<I: Iterator<Item = Result<T, E>>>(
+        alloc: Global,
+        iter: I,
+    ) -> Result<TryVec<T>, E> {
+        let mut items = TryVec::new(alloc);
+        match pour::<T, E, Result<T, E>, I>(&mut items, None, iter) {
+            Stop::Ended => Ok(items),
+            Stop::Error(error) => Err(error),
+            Stop::Refused(oom) => Err(E::from(oom)),
+            Stop::Full => unreachable!(),
+        }
+    }
+}
+
+/// All items. Want of memory may come after any of them.
+impl<T: Drop> TryFromIterator<T, OutOfMemory> for BoxedSlice<T> {
+    ghost has = { λ s items. s ≡ items };
+
+    ghost fails = { λ _ _. ⊤ };
+
+    fn try_from_iter<I: Iterator<Item = T>>(
+        alloc: Global,
+        iter: I,
+    ) -> Result<BoxedSlice<T>, OutOfMemory> {
+        let items: TryVec<T> = TryFromIterator::<T, OutOfMemory>::try_from_iter(alloc, iter)?;
+        into_boxed_slice(items)
+    }
+}
+
+/// The values of all items. The first item that is an `Err` is answered, and no more are read.
+impl<T: Drop, E: From<OutOfMemory> + Drop> TryFromIterator<Result<T, E>, E> for BoxedSlice<T> {
+    ghost has = { λ s items. items ≡ map Ok s };
+
+    ghost fails = { EndsInError E.from_gives };
+
+    fn try_from_iter<I: Iterator<Item = Result<T, E>>>(
+        alloc: Global,
+        iter: I,
+    ) -> Result<BoxedSlice<T>, E> {
+        let items: TryVec<T> = TryFromIterator::<Result<T, E>, E>::try_from_iter(alloc, iter)?;
+        match into_boxed_slice(items) {
+            Ok(slice) => Ok(slice),
+            Err(oom) => Err(E::from(oom)),
+        }
+    }
+}
+
+/// A collection of all items of `iter`, in order, as `B::try_from_iter` makes it.
+///
+/// A port of `TryCollect::try_collect`.
+pub fn try_collect<B: TryFromIterator<T, E>, T, E, I: Iterator<Item = T>>(
+    alloc: Global,
+    iter: I,
+) -> Result<B, E>
+    requires ready { I.can_next iter }
+    ensures items { MatchResult result (λ made. (items : List T) × Drains I.next_gives iter items × B.has made items)
+        (λ e. (items : List T) × (t : I) × Yields I.next_gives iter items t × B.fails items e) }
+{
+    B::try_from_iter(alloc, iter)
+}

@@ -1,0 +1,66 @@
+//! Texts of a fixed length.
+ghost use Rattle.std.specs.Prelude.{◌≡◌, length, IsOk, IfOk};
+
+use std::alloc::Global;
+use std::marker::Model;
+use wic_base::OutOfMemory;
+use wic_vec::{TryClone, TryString};
+
+/// A text of its own, whose length stays. A contract sees it as its UTF-8 bytes.
+///
+/// A port of `Box<str>`.
+#[derive(Drop)]
+pub struct BoxedStr {
+    text: TryString,
+}
+
+impl Model for BoxedStr {
+    ghost use Rattle.std.specs.Prelude.{ℕ, List};
+
+    ghost Value = { List ℕ };
+
+    ghost view = { λ s. s.text.bytes };
+}
+
+impl BoxedStr {
+    /// The text in place.
+    pub fn as_str(&self) -> &str
+        ensures text { result.now ≡ self.now }
+    {
+        self.text.as_str()
+    }
+
+    /// The number of bytes of the text.
+    pub fn len(&self) -> usize
+        ensures length { result ≡ length self.now }
+    {
+        self.text.len()
+    }
+
+    /// The text as one that can grow, in the same memory.
+    pub fn into_string(self) -> TryString
+        ensures text { result.bytes ≡ self }
+    {
+        self.text
+    }
+}
+
+/// The text of `s`. It is never refused.
+///
+/// A port of `TryString::into_boxed_str`.
+pub fn into_boxed_str(mut s: TryString) -> Result<BoxedStr, OutOfMemory>
+    ensures text { IfOk result (λ text. text ≡ s.bytes) }
+    ensures never_refused { IsOk result }
+{
+    s.shrink_to_fit()?;
+    Ok(BoxedStr { text: s })
+}
+
+/// A copy is the same text.
+impl TryClone for BoxedStr {
+    ghost same = { λ a b. a ≡ b };
+
+    fn try_clone(&self, alloc: Global) -> Result<BoxedStr, OutOfMemory> {
+        into_boxed_str(TryString::try_from_str(alloc, self.as_str())?)
+    }
+}
