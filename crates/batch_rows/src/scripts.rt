@@ -17,10 +17,7 @@ fn scripts_are_answered_by_the_text_of_their_run(rt: HostRuntime) -> Result<(), 
             "begin\npush 7\npop\npop\ncommit\nshow\n",
             "refused: command 3: list is empty\nlist\nset\ntable\nnext 0\n",
         ),
-        (
-            "begin\npop\nabort\n",
-            "refused: command 1: list is empty\n",
-        ),
+        ("begin\npop\nabort\n", "refused: command 1: list is empty\n"),
         (
             "begin\nalloc 1\nalloc 2\nabort\nbegin\nalloc 5\ncommit\n",
             "aborted\nid 0\ncommitted\n",
@@ -155,7 +152,8 @@ fn a_script_is_read_as_its_items(rt: HostRuntime) -> Result<(), Fail> {
     assert_eq!(rt; script.items.len(), 3);
     for item in script.items {
         let is_as_read = match item {
-            Item::Batch(batch) => batch.commands.len() == 1 && batch.commands[0] == Command::Push(7),
+            Item::Batch(batch) => batch.commands.len() == 1
+                && batch.commands[0] == Command::Push(7),
             Item::Show => true,
             Item::Reserve(number) => number == 3,
         };

@@ -1,13 +1,13 @@
 -- Worked examples of the definitions, computed.
-use Rattle.std.proofs.Common.{◌≡◌, ℕ, ◌++◌, List, [], ◌∷◌, refl, inl, inr}
+use Rattle.std.proofs.Common.{◌≡◌, List, [], ◌∷◌, refl, inr}
 use Rattle.std.specs.Prelude.{codes}
 use Rattle.std.specs.Fmt.{digits}
-use Rattle.batch_core.specs.State.{State, no_contents, empty_state}
+use Rattle.batch_core.specs.State.{empty_state}
 use Rattle.batch_core.specs.declared.command.Command.TheVariants.{Push, Pop, Set, Insert, Truncate}
 use Rattle.batch_core.specs.declared.command.End.TheVariants.{Commit, Abort}
-use Rattle.batch_script.specs.Machine.{Item, Run, reserve, show, batch, answered, no_memory, plain_step}
+use Rattle.batch_script.specs.Machine.{Item, Run, reserve, show, batch, no_memory, plain_step}
 use Rattle.batch_script.specs.Grammar.{Line, command_line, lines_of, all_lines}
-use Rattle.batch_script.specs.Reply.{reply_lines, text_of_lines}
+use Rattle.batch_script.specs.Reply.{reply_lines}
 
 -- the lines of the reply to an item on its own, where memory is found
 abbrev replied : Item → List Line
