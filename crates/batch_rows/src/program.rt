@@ -36,7 +36,7 @@ pub fn run_program(
         4,
         vector_of(alloc, failing_reads)?,
     );
-    let mut sink = MemSink::new(alloc, 100, 3, vector_of(alloc, failing_writes)?)?;
+    let mut sink = MemSink::new(alloc, 2000, 3, vector_of(alloc, failing_writes)?)?;
     let status = top(alloc, &given, &mut source, &mut sink);
     Ok(Answer { status, sink })
 }

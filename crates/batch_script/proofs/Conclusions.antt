@@ -19,13 +19,19 @@ some_told bytes input same = cc
 pub attempt_from_answer : (status : Status) (words : List TryString) (left left_after : Option (List ℕ)) (before after : ℕ)
     (bytes text : List ℕ) → words ≡ [] → ReadsAll left left_after bytes → after ≡ before → Answers status bytes text
     → Attempts status words left left_after before after text
-attempt_from_answer Done words left left_after before after bytes text none reads kept answers =
-    (none, reads.ended, (λ input told. subst (λ held. length held ≤ input_limit) (reads.all input told) reads.within), kept,
-        λ input told. answers input (ap Some (reads.all input told)))
+attempt_from_answer Done words left left_after before after bytes text none reads kept answers = (
+  none,
+  reads.ended,
+  (λ input told. subst (λ held. length held ≤ input_limit) (reads.all input told) reads.within),
+  kept,
+  λ input told. answers input (ap Some (reads.all input told)),
+)
 attempt_from_answer Syntax words left left_after before after bytes text none reads kept answers = (
   none,
-  (λ input told. (subst (λ held. length held ≤ input_limit) (reads.all input told) reads.within,
-      subst (λ held. IsScript held → ⊥) (reads.all input told) answers.0)),
+  (λ input told. (
+    subst (λ held. length held ≤ input_limit) (reads.all input told) reads.within,
+    subst (λ held. IsScript held → ⊥) (reads.all input told) answers.0,
+  )),
   kept,
   (answers.1.0, answers.1.1, λ input told. answers.1.2 input (ap Some (reads.all input told))),
 )
@@ -60,7 +66,7 @@ headline_lem status result words left left_after written written_after source_be
 headline_lem Done result words left left_after written written_after source_before source_after sink_before sink_after text attempts
     (inl wrote) input held items premises =
     inl (runs Done result written_after input held text items wrote.0 (attempts.4 input premises.source_tells) premises.script
-        (wrote.1.gained held premises.sink_tells))
+    (wrote.1.gained held premises.sink_tells))
 headline_lem Syntax result words left left_after written written_after source_before source_after sink_before sink_after text attempts
     (inl wrote) input held items premises =
     absurd ((attempts.1 input premises.source_tells).1 (items, premises.script))

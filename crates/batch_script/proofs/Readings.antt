@@ -64,10 +64,12 @@ read-end items commands lines line ending was e = record {
 -- what was read begins a script
 pub IsOpen-read : (items : List Item) (begun : Option (List (Command ℕ))) (lines : List Line) → AreRead items begun lines → IsOpen lines
 IsOpen-read items None lines was = (items, [], was.valid_items, rw was.same (simp append-nil))
-IsOpen-read items (Some commands) lines was =
-    (items ++ batch commands Commit ∷ [], end_line Commit ∷ [],
-        AllByRecursion-append IsValidItem items (batch commands Commit ∷ []) was.valid_items (was.valid_open, tt),
-        rw (was.same, all_lines-append items (batch commands Commit ∷ [])) (simp (append_assoc, append-nil)))
+IsOpen-read items (Some commands) lines was = (
+  items ++ batch commands Commit ∷ [],
+  end_line Commit ∷ [],
+  AllByRecursion-append IsValidItem items (batch commands Commit ∷ []) was.valid_items (was.valid_open, tt),
+  rw (was.same, all_lines-append items (batch commands Commit ∷ [])) (simp (append_assoc, append-nil)),
+)
 
 -- the line after these is no first line of an item
 pub stuck_outside : (items : List Item) (lines : List Line) (line : Line) → AreRead items None lines → ¬ StartsItem line

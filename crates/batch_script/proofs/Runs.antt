@@ -4,7 +4,7 @@ use Rattle.std.specs.Prelude.{codes}
 use Rattle.std.specs.List.{flat_map}
 use Rattle.std.proofs.lemmas.List.{append-nil}
 use Rattle.std.proofs.lemmas.List.Concat.{flat_map-append}
-use Rattle.batch_core.specs.State.{State, empty_state}
+use Rattle.batch_core.specs.State.{empty_state}
 use Rattle.batch_core.specs.Batch.{Outcome, committed, refused, outcome_of}
 use Rattle.batch_core.specs.Applied.{RefusedFor}
 use Rattle.batch_core.specs.Workspace.{Workspace}
@@ -25,7 +25,8 @@ use Rattle.batch_script.specs.RunText.{IsTextOfRun, Answers, state_of}
 pub text_of-more : (replies : List Reply) (reply : Reply)
     → text_of (replies ++ reply ∷ []) ≡ text_of replies ++ text_of_lines (reply_lines reply)
 text_of-more replies reply =
-    rw (flat_map-append reply_lines replies (reply ∷ []), append-nil) (flat_map-append _ (flat_map reply_lines replies) (reply_lines reply))
+    rw (flat_map-append reply_lines replies (reply ∷ []), append-nil)
+    (flat_map-append _ (flat_map reply_lines replies) (reply_lines reply))
 
 -- the text of a batch that was committed: the lines of its records, and one more
 pub text-committed : (records : List (Record ℕ))

@@ -39,7 +39,7 @@ pub record WritesFront (text : List ℕ) (written written_after : Option (List �
 abbrev pub Finishes : List ℕ → Status → Status → Option (List ℕ) → Option (List ℕ) → ℕ → ℕ → Type 0
 Finishes text status result written written_after before after =
     ((result ≡ status) × WritesWhole text written written_after before after) ⊎
-        ((result ≡ WriteFault) × WritesFront text written written_after before after)
+    ((result ≡ WriteFault) × WritesFront text written written_after before after)
 
 -- Why a text is to be written with a status, by the input that was read.
 abbrev pub Answers : Status → List ℕ → List ℕ → Type 0

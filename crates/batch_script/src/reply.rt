@@ -79,7 +79,10 @@ pub(crate) fn push_refusal(
 }
 
 /// Writes list, set and table, and the next id.
-pub(crate) fn push_contents(text: &mut TryString, workspace: &Workspace<u64>) -> Result<(), OutOfMemory>
+pub(crate) fn push_contents(
+    text: &mut TryString,
+    workspace: &Workspace<u64>,
+) -> Result<(), OutOfMemory>
     ensures lines { OnOk result (text.new.bytes ≡ text.old.bytes ++ text_of_lines (reply_lines (shown_of workspace.now.contents))) }
 {
     push_list(text, workspace.list())?;

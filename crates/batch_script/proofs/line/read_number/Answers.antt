@@ -17,7 +17,7 @@ returns-in_err-number-clause-none c =
     let i = c.loop-byte.byte-index in
     let digits = c.args.digits.now in
     let too_large = subst (λ n. IsInRange 48 57 (get_or digits i 0) → 2 ^ 64 ≤ n * 10 + (get_or digits i 0 - 48))
-        c.loop-byte.invariant.value
+    c.loop-byte.invariant.value
     c.in_err-number.ensures.none in
     where_none _ ((number : ℕ) → number < 2 ^ 64 → digits ≢ decimal number)
     (λ number small is. no_number digits i number c.loop-byte-test.true too_large small is)

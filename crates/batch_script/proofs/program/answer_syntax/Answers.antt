@@ -13,7 +13,13 @@ returns-in-Ok g c =
     let shown = c.as_str.ensures.value ∙ (c.in-Ok.ensures.ok ∙ sym (append-nil line)) in (
       Syntax,
       c.as_str.result.now,
-      (λ input none fault. (none, (c.args.line, shown,
-          λ other told. subst (λ held. IsFaultLine held c.args.line) (some_told input other told) fault))),
+      (λ input none fault. (
+        none,
+        (
+          c.args.line,
+          shown,
+          λ other told. subst (λ held. IsFaultLine held c.args.line) (some_told input other told) fault,
+        ),
+      )),
       c.finish.ensures,
     )

@@ -22,7 +22,10 @@ loop-bytes-preserved g c =
       c.in-Ok.ensures.cause.kept ∙ inv.0,
       c.in_ok-take_piece-in-Ok.ensures.fits,
       omega arith,
-      λ input told. let left = inv.3 input told in let takes = c.in-Ok.ensures.bytes left.0 left.1 in
-          (drop count left.0, takes.rest, ap (λ items. items ++ drop count left.0) c.in_ok-take_piece-in-Ok.ensures.taken
-          ∙ read-more c.loop-bytes.bytes.items left.0 input c.read.new.buf (g.S.Source.left c.read.new.self) count left.2 takes),
+      λ input told. let left = inv.3 input told in let takes = c.in-Ok.ensures.bytes left.0 left.1 in (
+        drop count left.0,
+        takes.rest,
+        ap (λ items. items ++ drop count left.0) c.in_ok-take_piece-in-Ok.ensures.taken
+            ∙ read-more c.loop-bytes.bytes.items left.0 input c.read.new.buf (g.S.Source.left c.read.new.self) count left.2 takes,
+      ),
     )

@@ -5,8 +5,8 @@ use Rattle.batch_script.proofs.program.read_input.Given as goal
 abbrev pub invariant-loop-bytes : goal.invariant-loop-bytes
 invariant-loop-bytes g l =
     (g.S.Source.faults l.source ≡ g.S.Source.faults l.initial.source) × (length l.bytes.items ≤ input_limit) × (length l.piece ≡ 4096)
-        × ((input : List ℕ) → g.S.Source.left l.initial.source ≡ Some input
-        → (rest : List ℕ) × (g.S.Source.left l.source ≡ Some rest) × (l.bytes.items ++ rest ≡ input))
+    × ((input : List ℕ) → g.S.Source.left l.initial.source ≡ Some input
+    → (rest : List ℕ) × (g.S.Source.left l.source ≡ Some rest) × (l.bytes.items ++ rest ≡ input))
 
 abbrev pub decreases-loop-bytes : goal.decreases-loop-bytes
 decreases-loop-bytes g l = input_limit - length l.bytes.items

@@ -4,8 +4,8 @@ use Rattle.batch_script.proofs.program.write_text.Given as goal
 abbrev pub invariant-loop-rest : goal.invariant-loop-rest
 invariant-loop-rest g l =
     (g.K.Sink.faults l.sink ≡ g.K.Sink.faults l.initial.sink)
-        × ((front : List ℕ) × (l.text ≡ front ++ l.rest)
-        × ((held : List ℕ) → g.K.Sink.written l.initial.sink ≡ Some held → g.K.Sink.written l.sink ≡ Some (held ++ front)))
+    × ((front : List ℕ) × (l.text ≡ front ++ l.rest)
+    × ((held : List ℕ) → g.K.Sink.written l.initial.sink ≡ Some held → g.K.Sink.written l.sink ≡ Some (held ++ front)))
 
 abbrev pub decreases-loop-rest : goal.decreases-loop-rest
 decreases-loop-rest g l = length l.rest

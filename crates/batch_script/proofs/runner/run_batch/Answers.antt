@@ -48,7 +48,8 @@ returns-in-Some c =
     let why = c.in-Some.why in
     let is : kind_of_cause refusal.cause ≡ Some why = sym c.of_cause.ensures.kind ∙ c.in-Some.is in
     let applied = c.in-Err.ensures.applied in
-    let step = refused_step c.args.workspace.now new batch.commands.items batch.end c.apply.ensures.room refusal.cause refusal.at why is applied.0 applied.2 in
+    let step = refused_step c.args.workspace.now new batch.commands.items batch.end c.apply.ensures.room refusal.cause refusal.at why is
+    applied.0 applied.2 in
     record {
       answered =
           on_ok_weaker c.push_refusal.result

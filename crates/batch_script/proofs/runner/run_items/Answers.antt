@@ -9,7 +9,8 @@ loop-item-preserved c =
     let new = c.run_item.new in
     let rest = c.next.new.self in
     let steps = c.in-Some.ensures.steps in
-    under_way-more (plain_items c.args.items.items) l.workspace new.workspace l.text.bytes new.text.bytes (into_iter_items l.item-iterator)
+    under_way-more (plain_items c.args.items.items) l.workspace new.workspace l.text.bytes new.text.bytes
+    (into_iter_items l.item-iterator)
     (into_iter_items rest) c.in-Some.item (into_iter_len l.item-iterator) (into_iter_len rest) l.invariant steps.0 steps.1
     c.in_ok-run_item.ensures.answered
 

@@ -14,16 +14,20 @@ pub returns-then-self-clause-ok : goal.returns-then-self-clause-ok
 returns-then-self-clause-ok c =
     let self = c.args.self.now in
     on_ok_weaker c.take_in_batch.result
-    (λ goes lines was. goes lines c.args.line.now c.in-Some.ensures.some
-    (c.if-self.true, subst (λ begun. AreRead (plain_items self.items.items) (begun_of begun self.commands.items) lines) c.if-self.true
-        was))
+    (λ goes lines was. goes lines c.args.line.now c.in-Some.ensures.some (
+      c.if-self.true,
+      subst (λ begun. AreRead (plain_items self.items.items) (begun_of begun self.commands.items) lines) c.if-self.true
+          was,
+    ))
     c.take_in_batch.ensures.ok
 
 pub returns-else-self-clause-ok : goal.returns-else-self-clause-ok
 returns-else-self-clause-ok c =
     let self = c.args.self.now in
     on_ok_weaker c.take_outside.result
-    (λ goes lines was. goes lines c.args.line.now c.in-Some.ensures.some
-    (c.if-self.false, subst (λ begun. AreRead (plain_items self.items.items) (begun_of begun self.commands.items) lines) c.if-self.false
-        was))
+    (λ goes lines was. goes lines c.args.line.now c.in-Some.ensures.some (
+      c.if-self.false,
+      subst (λ begun. AreRead (plain_items self.items.items) (begun_of begun self.commands.items) lines) c.if-self.false
+          was,
+    ))
     c.take_outside.ensures.ok
