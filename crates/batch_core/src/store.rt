@@ -1,6 +1,6 @@
 //! What a workspace holds: the commands done in place, each with its records.
-ghost use Rattle.std.specs.Prelude.{◌≡◌, ◌+◌, ◌<◌, ◌≤◌, ◌↔◌, [], ◌∷◌, ◌++◌, ℕ, None, Some, IsTrue, IsOk, IsSome, IfSome, IfErr, OnOk, OnErr};
-ghost use Rattle.std.specs.Prelude.{length, take, true};
+ghost use Rattle.std.specs.Prelude.{◌≡◌, ◌+◌, ◌<◌, ◌≤◌, ◌↔◌, [], ◌∷◌, ◌++◌, ℕ, length, take, true, None, Some};
+ghost use Rattle.std.specs.Prelude.{IsTrue, IsOk, IsSome, IfSome, IfErr, OnOk, OnErr};
 ghost use Rattle.std.specs.FinMap.{contains_key, len};
 ghost use Rattle.wic_slab.specs.Order.{max_capacity};
 ghost use Rattle.batch_core.specs.Back.{AllBelow, Grows, IsWithin, CanUndo, CanGoBack, undo_record, back};

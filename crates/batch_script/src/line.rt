@@ -1,5 +1,6 @@
 //! Reads a line: a word, and up to two numbers behind it.
-ghost use Rattle.std.specs.Prelude.{◌≡◌, ◌≢◌, ◌+◌, ◌-◌, ◌*◌, ◌^◌, ◌<◌, ◌≤◌, ◌∷◌, ◌++◌, ◌↔◌, ℕ, List, IsTrue, length, false, IfSome, IfNone, MatchOption, EachIndex, slice_index};
+ghost use Rattle.std.specs.Prelude.{◌≡◌, ◌≢◌, ◌+◌, ◌-◌, ◌*◌, ◌^◌, ◌<◌, ◌≤◌, ◌∷◌, ◌++◌, ◌↔◌, ℕ, List, length, false};
+ghost use Rattle.std.specs.Prelude.{IsTrue, IfSome, IfNone, MatchOption, EachIndex, slice_index};
 ghost use Rattle.std.specs.Fmt.{decimal};
 ghost use Rattle.std.specs.Int.{IsInRange};
 ghost use Rattle.batch_script.specs.Reading.{AreNumbers, BeginsNumber, HasParts, HasNoParts, has_space, listed};

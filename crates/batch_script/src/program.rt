@@ -200,7 +200,8 @@ pub fn top<S: Source, K: Sink>(
         → (result ≡ Status.TooLong) ⊎ (result ≡ Status.Oom) }
     ensures usage { result ≡ Status.Usage → (words.now.items ≢ []) × (K.faults sink.new ≡ K.faults sink.old) }
     ensures usage_enough { words.now.items ≢ [] → ¬ Rose (K.faults sink.old) (K.faults sink.new) → result ≡ Status.Usage }
-    ensures usage_reads_nothing { words.now.items ≢ [] → (S.left source.new ≡ S.left source.old) × (S.faults source.new ≡ S.faults source.old) }
+    ensures usage_reads_nothing { words.now.items ≢ []
+        → (S.left source.new ≡ S.left source.old) × (S.faults source.new ≡ S.faults source.old) }
 {
     conclude(alloc, words, source, sink)
 }

@@ -15,7 +15,8 @@ returns-in-Err-clause-first_error g c =
       c.loop-i.list.items,
       c.cb.new.self,
       omega (arith, at.as_many, c.loop-i-test.true),
-      subst (λ n. ClosureRun call c.args.cb (range_with_len 0 (n + 1)) (map Ok c.loop-i.list.items ++ Err c.in-Err.error ∷ []) c.cb.new.self)
+      subst (λ n. ClosureRun call c.args.cb (range_with_len 0 (n + 1))
+          (map Ok c.loop-i.list.items ++ Err c.in-Err.error ∷ []) c.cb.new.self)
           (sym at.as_many)
           (one_more_call call c.args.cb c.loop-i.cb c.cb.new.self c.loop-i.i _ (Err c.in-Err.error) at.run
           (called g.F.FnMut c.cb.ensures c.in-Err.is)),
