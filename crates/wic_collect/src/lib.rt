@@ -1,9 +1,23 @@
-//! Items of iterators collected into vectors and slices, where growth can be refused.
+//! Items of iterators collected into vectors and slices, where growth can be refused, and content that is borrowed until
+//! it has to be owned.
+//!
+//! A call that reads to the end answers Ok exactly with the items that the iterator gave, in order. `shout` of the callers
+//! is proved to put one more character behind a text, be it borrowed or owned, or to leave the text as it was:
+//!
+//! ```text
+//! cow.to_mut(alloc)?.push_str("!")
+//! ```
+//!
+//! Room is taken as items come, and never by what an iterator says of its length, so a wrong hint costs nothing. No call
+//! asks that an iterator ends: one that doesn't is read until memory ends. No contract says that an item was left unread;
+//! tests show it. Collecting costs amortised constant time an item, and `finish` of a builder nothing.
 #![tactic(auto)]
 
 mod array;
 mod boxed;
 mod builder;
+#[cfg(test)]
+mod callers;
 mod collect;
 mod cow;
 mod errors;

@@ -10,13 +10,13 @@ use Rattle.wic_collect.proofs.array.array_try_from_fn.Goals as goal
 pub returns-in-Err-clause-first_error : goal.returns-in-Err-clause-first_error
 returns-in-Err-clause-first_error g c =
     let at = c.loop-i.invariant in
+    let values = c.loop-i.list.items in
     let call =
     λ (f : g.row.F.Denot) (x : ℕ) (r : Result g.row.T.Denot g.row.E.Denot) (next : g.row.F.Denot). Called g.F.FnMut f (x, tt) r next in (
       c.loop-i.list.items,
       c.cb.new.self,
       omega (arith, at.as_many, c.loop-i-test.true),
-      subst (λ n. ClosureRun call c.args.cb (range_with_len 0 (n + 1))
-          (map Ok c.loop-i.list.items ++ Err c.in-Err.error ∷ []) c.cb.new.self)
+      subst (λ n. ClosureRun call c.args.cb (range_with_len 0 (n + 1)) (map Ok values ++ Err c.in-Err.error ∷ []) c.cb.new.self)
           (sym at.as_many)
           (one_more_call call c.args.cb c.loop-i.cb c.cb.new.self c.loop-i.i _ (Err c.in-Err.error) at.run
           (called g.F.FnMut c.cb.ensures c.in-Err.is)),
