@@ -1,0 +1,216 @@
+//! A slab whose handles are never found again once their value was taken out.
+ghost use Rattle.std.specs.Prelude.{◌≡◌, ◌+◌, ◌<◌, ◌≤◌, ◌==◌, ◌↔◌, Err, None, Some};
+ghost use Rattle.std.specs.Prelude.{IsOk, IsSome, IfOk, IfSome, IfNone, OnOk, OnErr, option_copied};
+ghost use Rattle.std.specs.Prelude.{is_some};
+ghost use Rattle.std.specs.Option.{option_copied_mut};
+ghost use Rattle.std.specs.Borrow.{sem};
+ghost use Rattle.std.specs.FinMap.{empty, len};
+ghost use Rattle.wic_slab.specs.Order.{from_zero, max_capacity};
+ghost use Rattle.gen_slab.specs.GenSlab.{IsGenState, last_count, next_handle, value_of, with_next, without};
+
+use crate::id::GenerationalId;
+use std::alloc::Global;
+use std::marker::Model;
+use std::mem::size_of;
+use wic_base::OutOfMemory;
+use wic_slab::Slab;
+
+/// The last count of values taken out: at it nothing is handed out any more.
+const LAST_COUNT: u64 = 4294967296;
+
+/// A value with the generation of its handle.
+#[derive(Drop)]
+pub(crate) struct Held<T> {
+    pub(crate) generation: u32,
+    pub(crate) value: T,
+}
+
+// An entry of a number of eight bytes takes no more than twenty-four.
+const _: () = prove!(size_of::<Held<u64>>() <= 16);
+
+/// Why a value wasn't held. Own.
+#[derive(Clone, Copy, Debug)]
+pub enum GenRefusal {
+    /// As many values were taken out as there are generations.
+    Spent,
+    /// There was no memory.
+    Oom(OutOfMemory),
+}
+
+/// Values, each under a handle that the slab picks and that finds no other value ever after. Own.
+///
+/// A contract sees the state, which is the live ids with their values and generations, the order of further ids and the count
+/// of values that were taken out; and the capacity, how many values fit with no request for memory.
+#[derive(Drop)]
+pub struct GenerationalSlab<T> {
+    pub(crate) slab: Slab<Held<T>>,
+    count: u64,
+}
+
+impl<T> Model for GenerationalSlab<T> {
+    ghost use Rattle.gen_slab.specs.GenSlab.{GenSlab, IsCounted, gen_slab_code};
+
+    ghost Value = { GenSlab T };
+
+    ghost coded = { gen_slab_code T.code };
+
+    ghost view = { λ s. record {
+      state = record { live = s.slab.live; order = s.slab.order; count = s.count };
+      capacity = s.slab.capacity;
+    } };
+
+    ghost invariant = { λ s. IsCounted (record { live = s.slab.live; order = s.slab.order; count = s.count }) };
+}
+
+impl<T> GenerationalSlab<T> {
+    ghost use Rattle.gen_slab.specs.Lends.{lends_get, lends_value};
+
+    /// The empty slab, of count 0. It takes no memory. Own.
+    pub fn new(alloc: Global) -> GenerationalSlab<T>
+        ensures live { result.state.live ≡ empty }
+        ensures order { result.state.order ≡ from_zero }
+        ensures count { result.state.count ≡ 0 }
+    {
+        GenerationalSlab::with_count(alloc, 0)
+    }
+
+    /// The empty slab, as if `count` values had been taken out, at most 4294967296. It takes no memory. Own.
+    pub fn with_count(alloc: Global, count: u64) -> GenerationalSlab<T>
+        requires { count ≤ last_count }
+        ensures live { result.state.live ≡ empty }
+        ensures order { result.state.order ≡ from_zero }
+        ensures count { result.state.count ≡ count }
+    {
+        GenerationalSlab {
+            slab: Slab::new(alloc),
+            count,
+        }
+    }
+
+    /// Holds `value` under the next id, with the count as its generation, and answers that handle. There must be fewer than
+    /// 4294967294 values. `Spent` comes exactly where the count is 4294967296, before memory is asked for; `Oom` only where as
+    /// many values are held as the capacity. After a refusal all is as before, and `value` is dropped. Own.
+    pub fn alloc(&mut self, value: T) -> Result<GenerationalId, GenRefusal>
+    where
+        T: Drop,
+        requires { len self.old.state.live < max_capacity }
+        ensures handle { IfOk result (λ handle. handle ≡ next_handle self.old.state) }
+        ensures held { OnOk result (self.new.state ≡ with_next self.old.state value) }
+        ensures found { IfOk result (λ handle. value_of self.new.state handle ≡ Some value) }
+        ensures one_more { OnOk result (len self.new.state.live ≡ len self.old.state.live + 1) }
+        ensures spent { (result ≡ Err GenRefusal.Spent) ↔ (self.old.state.count ≡ last_count) }
+        ensures refused_only_full { OnErr result (self.old.state.count < last_count → len self.old.state.live ≡ self.old.capacity) }
+        ensures refusal_leaves { OnErr result (self.new ≡ self.old) }
+        ensures capacity_never_falls { self.old.capacity ≤ self.new.capacity }
+    {
+        if self.count >= LAST_COUNT {
+            return Err(GenRefusal::Spent);
+        }
+        let generation = self.count as u32;
+        match self.slab.alloc(Held { generation, value }) {
+            Ok(id) => Ok(GenerationalId { id, generation }),
+            Err(oom) => return Err(GenRefusal::Oom(oom)),
+        }
+    }
+
+    /// The value of a handle, or `None` exactly where it isn't live. Own.
+    pub fn get(&self, handle: GenerationalId) -> Option<&T>
+        ensures value { option_copied result ≡ value_of self.now.state handle }
+    {
+        match self.slab.get(handle.id) {
+            Some(held) => {
+                if held.generation == handle.generation {
+                    Some(&held.value)
+                } else {
+                    None
+                }
+            }
+            None => None,
+        }
+    }
+
+    /// The value of a handle, to be read and written, or `None` exactly where it isn't live. What is written is the value that
+    /// the handle then has, and all else stays. Own.
+    pub fn get_mut(&mut self, handle: GenerationalId) -> Option<&mut T>
+        ensures* writes_back { sem 𝓛 (lends_get T.row self.entry handle result) }
+        ensures value { option_copied_mut result ≡ value_of self.old.state handle }
+    {
+        if self.contains(handle) {
+            Some(self.value_mut(handle))
+        } else {
+            None
+        }
+    }
+
+    // The value of a live handle.
+    fn value_mut(&mut self, handle: GenerationalId) -> &mut T
+        requires { IsSome (value_of self.old.state handle) }
+        ensures* writes_back { sem 𝓛 (lends_value T.row self.entry handle result) }
+        ensures value { value_of self.old.state handle ≡ Some result.now }
+    {
+        &mut self.slab[handle.id].value
+    }
+
+    /// Whether the handle is live. Own.
+    pub fn contains(&self, handle: GenerationalId) -> bool
+        ensures live { result ≡ is_some (value_of self.now.state handle) }
+    {
+        self.get(handle).is_some()
+    }
+
+    /// Takes out the value of a handle, whose id is given back; the count rises by one, but not beyond 4294967296. `None` comes
+    /// exactly where the handle isn't live, and then nothing changes. Own.
+    pub fn dealloc(&mut self, handle: GenerationalId) -> Option<T>
+        ensures value { result ≡ value_of self.old.state handle }
+        ensures taken { IfSome result (λ _. self.new.state ≡ without self.old.state handle) }
+        ensures one_less { IfSome result (λ _. len self.new.state.live + 1 ≡ len self.old.state.live) }
+        ensures gone { value_of self.new.state handle ≡ None }
+        ensures none_leaves { IfNone result (self.new ≡ self.old) }
+        ensures capacity_stays { self.new.capacity ≡ self.old.capacity }
+    {
+        if !self.contains(handle) {
+            return None;
+        }
+        let Held {
+            generation: _,
+            value,
+        } = self.slab.dealloc(handle.id);
+        self.count = (self.count + 1).min(LAST_COUNT);
+        Some(value)
+    }
+
+    /// The number of values. Own.
+    ///
+    /// Its contract also says what is true of every generational slab.
+    pub fn len(&self) -> usize
+        ensures live { result ≡ len self.now.state.live }
+        ensures within { result ≤ self.now.capacity }
+        ensures sound { IsGenState self.now.state }
+    {
+        let _ = self.count;
+        self.slab.len()
+    }
+
+    /// Whether there is no value. Own.
+    pub fn is_empty(&self) -> bool
+        ensures empty { result ≡ (len self.now.state.live == 0) }
+    {
+        self.slab.is_empty()
+    }
+
+    /// How many values fit with no request for memory. Own.
+    pub fn capacity(&self) -> usize
+        ensures capacity { result ≡ self.now.capacity }
+        ensures at_most { result ≤ max_capacity }
+    {
+        self.slab.capacity()
+    }
+
+    /// How many values were taken out, at most 4294967296. Own.
+    pub fn count(&self) -> u64
+        ensures count { result ≡ self.now.state.count }
+        ensures at_most { result ≤ last_count }
+    {
+        self.count
+    }
+}
