@@ -16,6 +16,6 @@ mod truncate;
 mod undo;
 
 pub use non_max::{NonMax, NonMaxNumber, NonMaxU8, NonMaxU16, NonMaxU32, NonMaxU64, NonMaxUsize};
-pub use oom::OutOfMemory;
+pub use oom::{GREATEST_SIZE, OutOfMemory};
 pub use truncate::{truncate_i32_to_i8, truncate_i32_to_i16};
 pub use undo::Undo;

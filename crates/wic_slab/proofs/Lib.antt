@@ -3,3 +3,4 @@ pub mod EntryLemmas
 pub mod LiveLemmas
 pub mod OrderLemmas
 pub mod SoundLemmas
+pub mod StepLemmas

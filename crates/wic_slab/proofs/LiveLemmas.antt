@@ -46,6 +46,15 @@ module _ {T : Type 0} where
         | inr differs ↦ get-remove_other _ k q differs ∙ get-insert_other m k v q differs
       ])
 
+  -- a value that is written over another and gives way to it again
+  pub insert_back : (m : FinMap nat_cmp T) (k : ℕ) (v old : T) → get m k ≡ Some old → insert (insert m k v) k old ≡ m
+  insert_back m k v old found =
+      same_live _ _
+      (λ q. elim (cases_eq q k) [
+        | inl same ↦ rw same (get-insert_same _ k old ∙ sym found)
+        | inr differs ↦ get-insert_other _ k old q differs ∙ get-insert_other m k v q differs
+      ])
+
   pub none_from_not_some : (o : Option T) → is_some o ≡ false → o ≡ None
   none_from_not_some None e = refl
   none_from_not_some (Some v) e = cc

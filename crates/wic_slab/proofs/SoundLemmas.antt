@@ -245,6 +245,7 @@ module _ {X : Type 0} where
       record {
         ordered = sound.ordered;
         belongs = sound.belongs;
+        total = omega (arith, sound.counted, sound.total);
         fits = omega (arith, sound.counted, sound.total, sound.within, sound.at_most);
         at_most = omega arith;
       }

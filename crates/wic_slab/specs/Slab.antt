@@ -1,9 +1,9 @@
 -- What a contract sees of a `Slab`.
-use Rattle.std.specs.Prelude.{ℕ, ◌+◌, ◌≤◌, List, IsTrue, refl}
+use Rattle.std.specs.Prelude.{◌≡◌, ℕ, ◌+◌, ◌≤◌, List, length, false, Some, IsTrue, refl}
 use Rattle.std.specs.Ordering.{nat_cmp}
-use Rattle.std.specs.FinMap.{FinMap, code, contains_key, insert, len}
+use Rattle.std.specs.FinMap.{FinMap, code, get, contains_key, insert, remove, len}
 use Rattle.std.specs.Coded.{Coded, code_by, coded×, coded_ℕ, coded_list}
-use Rattle.wic_slab.specs.Order.{Order, max_capacity, IsOrder, BelongsTo}
+use Rattle.wic_slab.specs.Order.{Order, max_capacity, next_id, take_next, give_back, IsOrder, BelongsTo}
 
 -- the live ids with their values, the order in which further ids come, and how many values fit with no request for
 -- memory
@@ -35,10 +35,43 @@ module _ {T : Type 0} where
   abbrev pub with_value : Slab T → ℕ → T → Slab T
   with_value s id value = record s { live = insert s.live id value }
 
-  -- what is true of every slab: its order is one, and the order's of its live ids; they fit, and the capacity has
-  -- its limit
+  -- what is true of every slab
   pub record IsSlab (s : Slab T) : Type 0 where
+    -- its order is one, and belongs to its live ids
     pub ordered : IsOrder s.order
     pub belongs : BelongsTo s.order s.live
+    -- live and vacant ids are as many as the first fresh one: so below the limit the next id is below it too
+    pub total : len s.live + length s.order.vacant ≡ s.order.fresh
+    -- the live ids fit, and the capacity has its limit
     pub fits : len s.live ≤ s.capacity
     pub at_most : s.capacity ≤ max_capacity
+
+  -- what holding this value under this id makes of a slab
+  pub record Holds (old new : Slab T) (value : T) (id : ℕ) : Type 0 where
+    -- the id is the next one of the order, which goes on behind it
+    pub id_is : id ≡ next_id old.order
+    pub order : new.order ≡ take_next old.order
+    -- it was vacant, and is live with the value now; the other ids are as before
+    pub was_vacant : contains_key old.live id ≡ false
+    pub live : new.live ≡ insert old.live (next_id old.order) value
+    pub now_live : IsLive new id
+    pub found : get new.live id ≡ Some value
+    pub one_more : len new.live ≡ len old.live + 1
+    -- the order belonged to the live ids, and does again
+    pub was_ordered : IsOrder old.order
+    pub belonged : BelongsTo old.order old.live
+    pub is_slab : IsSlab new
+
+  -- what giving this id back makes of a slab
+  pub record GivesBack (old new : Slab T) (id : ℕ) : Type 0 where
+    -- the order has the id at its front
+    pub order : new.order ≡ give_back old.order id
+    pub comes_next : next_id new.order ≡ id
+    -- it is live no more, and the other ids are as before
+    pub live : new.live ≡ remove old.live id
+    pub one_less : len new.live + 1 ≡ len old.live
+    pub capacity_stays : new.capacity ≡ old.capacity
+    -- the order belonged to the live ids, and does again
+    pub was_ordered : IsOrder old.order
+    pub belonged : BelongsTo old.order old.live
+    pub is_slab : IsSlab new

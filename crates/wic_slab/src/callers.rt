@@ -1,11 +1,26 @@
 //! Callers of a slab, proved from its contracts and laws alone.
-ghost use Rattle.std.specs.Prelude.{◌≡◌, ◌<◌, OnOk};
-ghost use Rattle.std.specs.FinMap.{len};
+ghost use Rattle.std.specs.Prelude.{◌≡◌, ◌<◌, Some, IfOk, OnOk, OnErr};
+ghost use Rattle.std.specs.FinMap.{get, len};
 ghost use Rattle.wic_slab.specs.Order.{max_capacity};
 ghost use Rattle.wic_slab.specs.Slab.{IsLive};
 
-use crate::{Id, Slab, law_give_back, law_take_back};
+use crate::{Id, MAX_CAPACITY, Slab, law_give_back, law_take_back};
 use wic_base::OutOfMemory;
+
+// Both values are held or none: the room is made before the first one is held, so neither is refused then.
+pub fn hold_both<T: Drop>(slab: &mut Slab<T>, first: T, second: T) -> Result<(Id, Id), OutOfMemory>
+    ensures first { IfOk result (λ ids. get slab.new.live ids.0 ≡ Some first) }
+    ensures second { IfOk result (λ ids. get slab.new.live ids.1 ≡ Some second) }
+    ensures refusal_leaves { OnErr result (slab.new.live ≡ slab.old.live) }
+{
+    if slab.len() > MAX_CAPACITY - 2 {
+        return Err(OutOfMemory::new(usize::MAX));
+    }
+    slab.reserve(2)?;
+    let one = slab.alloc(first)?;
+    let other = slab.alloc(second)?;
+    Ok((one, other))
+}
 
 // A value is held and taken out again: what is live, and the order of all later ids, are as before.
 pub fn hold_for_a_while<T: Drop>(slab: &mut Slab<T>, value: T) -> Result<(), OutOfMemory>
@@ -13,7 +28,6 @@ pub fn hold_for_a_while<T: Drop>(slab: &mut Slab<T>, value: T) -> Result<(), Out
     ensures live { OnOk result (slab.new.live ≡ slab.old.live) }
     ensures order { OnOk result (slab.new.order ≡ slab.old.order) }
 {
-    let _ = slab.len();
     law_take_back::<T>();
     let id = slab.alloc(value)?;
     let _ = slab.dealloc(id);
@@ -26,7 +40,6 @@ pub fn take_for_a_while<T: Drop>(slab: &mut Slab<T>, id: Id) -> Result<(), OutOf
     ensures live { OnOk result (slab.new.live ≡ slab.old.live) }
     ensures order { OnOk result (slab.new.order ≡ slab.old.order) }
 {
-    let _ = slab.len();
     law_give_back::<T>();
     let value = slab.dealloc(id);
     let _ = slab.alloc(value)?;

@@ -38,12 +38,14 @@ impl<T> Slab<T> {
 }
 
 impl<'a, T> IterMut<'a, T> {
-    ghost use Rattle.wic_slab.specs.IterMut.{iter_mut_slab, iter_mut_from, iter_mut_left, IsNextLive, NoneLiveFrom, walked_to, lends_value};
+    ghost use Rattle.wic_slab.specs.IterMut.{iter_mut_slab, iter_mut_from, iter_mut_left, iter_mut_lender, IsNextLive, NoneLiveFrom, walked_to, lends_value};
 
-    /// Goes on behind the next live id, and answers it, or `None` where no further id is live. The slab stays. It ends,
-    /// and stays at its end.
+    /// Goes on behind the next live id, and answers it, or `None` where no further id is live. The slab and the reference
+    /// to it stay. It ends, and stays at its end.
     pub fn next_id(&mut self) -> Option<Id>
         ensures moved { self.new ≡ walked_to self.old result }
+        ensures same_slab { iter_mut_slab self.new ≡ iter_mut_slab self.old }
+        ensures same_reference { iter_mut_lender self.new ≡ iter_mut_lender self.old }
         ensures next { IfSome result (IsNextLive (iter_mut_slab self.old) (iter_mut_from self.old)) }
         ensures done { IfNone result (NoneLiveFrom (iter_mut_slab self.old) (iter_mut_from self.old)) }
         ensures nearer { OnSome result (iter_mut_left self.new < iter_mut_left self.old) }

@@ -4,7 +4,7 @@ ghost use Rattle.std.specs.Option.{option_copied_mut};
 ghost use Rattle.std.specs.Borrow.{Lends, sem};
 ghost use Rattle.std.specs.FinMap.{empty, get, insert, remove, contains_key, len};
 ghost use Rattle.wic_slab.specs.Order.{max_capacity, from_zero, next_id, take_next, give_back};
-ghost use Rattle.wic_slab.specs.Slab.{IsLive, HasRoomFor, IsSlab};
+ghost use Rattle.wic_slab.specs.Slab.{IsLive, HasRoomFor, IsSlab, Holds, GivesBack};
 
 use crate::id::Id;
 use std::alloc::Global;
@@ -106,7 +106,8 @@ impl<T> Slab<T> {
         }
     }
 
-    /// The empty slab with room for at least `capacity` values. A capacity of 0 is never refused.
+    /// The empty slab with room for at least `capacity` values, which is at most `MAX_CAPACITY`. A capacity of 0 is never
+    /// refused.
     ///
     /// A port of `Slab::with_capacity`.
     pub fn with_capacity(alloc: Global, capacity: usize) -> Result<Slab<T>, OutOfMemory>
@@ -124,8 +125,8 @@ impl<T> Slab<T> {
         })
     }
 
-    /// Makes room for `additional` more values than are live. The live ids, their values and the hand-out order
-    /// stay, and so does the capacity where it is enough. It is refused only where the capacity is too small, and
+    /// Makes room for `additional` more values than are live: `len() + additional` is at most `MAX_CAPACITY`. The live ids,
+    /// their values and the hand-out order stay, and so does the capacity where it is enough. It is refused only where the capacity is too small, and
     /// then nothing changes. It asks for memory once.
     ///
     /// A port of `Slab::reserve`.
@@ -193,12 +194,7 @@ impl<T> Slab<T> {
     /// A port of `Slab::try_alloc`.
     pub fn try_alloc(&mut self, value: T) -> Result<Id, T>
         ensures full { IsErr result ↔ (len self.old.live ≡ self.old.capacity) }
-        ensures never_refused_below { len self.old.live < self.old.capacity → IsOk result }
-        ensures id { IfOk result (λ id. id ≡ next_id self.old.order) }
-        ensures live { OnOk result (self.new.live ≡ insert self.old.live (next_id self.old.order) value) }
-        ensures order { OnOk result (self.new.order ≡ take_next self.old.order) }
-        ensures now_live { IfOk result (IsLive self.new) }
-        ensures one_more { OnOk result (len self.new.live ≡ len self.old.live + 1) }
+        ensures holds { IfOk result (Holds self.old self.new value) }
         ensures handed_back { IfErr result (λ back. back ≡ value) }
         ensures refusal_leaves { OnErr result (self.new ≡ self.old) }
         ensures capacity_stays { self.new.capacity ≡ self.old.capacity }
@@ -209,8 +205,8 @@ impl<T> Slab<T> {
         Ok(self.take_next(value))
     }
 
-    /// Holds `value` under the next id and answers that id. It is refused only where the live ids are as many as the
-    /// capacity: then `value` is dropped and nothing else changes. Where it asks for memory, it is for as many values
+    /// Holds `value` under the next id and answers that id. `len()` is below `MAX_CAPACITY`. It is refused only where the live
+    /// ids are as many as the capacity, and so never after a `reserve` for it: then `value` is dropped and nothing else changes. Where it asks for memory, it is for as many values
     /// again, and for 16 at least, as far as `MAX_CAPACITY` allows.
     ///
     /// A port of `Slab::alloc`.
@@ -218,12 +214,7 @@ impl<T> Slab<T> {
     where
         T: Drop,
         requires { len self.old.live < max_capacity }
-        ensures id { IfOk result (λ id. id ≡ next_id self.old.order) }
-        ensures live { OnOk result (self.new.live ≡ insert self.old.live (next_id self.old.order) value) }
-        ensures order { OnOk result (self.new.order ≡ take_next self.old.order) }
-        ensures now_live { IfOk result (IsLive self.new) }
-        ensures one_more { OnOk result (len self.new.live ≡ len self.old.live + 1) }
-        ensures never_refused_below { len self.old.live < self.old.capacity → IsOk result }
+        ensures holds { IfOk result (Holds self.old self.new value) }
         ensures refused_only_full { OnErr result (len self.old.live ≡ self.old.capacity) }
         ensures capacity_kept_below { len self.old.live < self.old.capacity → self.new.capacity ≡ self.old.capacity }
         ensures capacity_never_falls { self.old.capacity ≤ self.new.capacity }
@@ -254,11 +245,7 @@ impl<T> Slab<T> {
     // An allocation where there is room.
     fn take_next(&mut self, value: T) -> Id
         requires { HasRoomFor self.old 1 }
-        ensures id { result ≡ next_id self.old.order }
-        ensures live { self.new.live ≡ insert self.old.live (next_id self.old.order) value }
-        ensures order { self.new.order ≡ take_next self.old.order }
-        ensures now_live { IsLive self.new result }
-        ensures one_more { len self.new.live ≡ len self.old.live + 1 }
+        ensures holds { Holds self.old self.new value result }
         ensures capacity { self.new.capacity ≡ self.old.capacity }
     {
         let next = self.next;
@@ -328,18 +315,14 @@ impl<T> Slab<T> {
         self.get(id).is_some()
     }
 
-    /// Takes out the value held under `id`, which must be live, and gives `id` back: it is the id of the next
+    /// Takes out the value held under `id`, which is live, as `contains` tells, and gives `id` back: it is the id of the next
     /// allocation. The capacity stays.
     ///
     /// A port of `Slab::dealloc`.
     pub fn dealloc(&mut self, id: Id) -> T
         requires { IsLive self.old id }
         ensures value { get self.old.live id ≡ Some result }
-        ensures live { self.new.live ≡ remove self.old.live id }
-        ensures order { self.new.order ≡ give_back self.old.order id }
-        ensures comes_next { next_id self.new.order ≡ id }
-        ensures one_less { len self.new.live + 1 ≡ len self.old.live }
-        ensures capacity_stays { self.new.capacity ≡ self.old.capacity }
+        ensures gives_back { GivesBack self.old self.new id }
     {
         let place = id.into_raw();
         let vacant = Entry::Vacant(self.next);

@@ -2,6 +2,7 @@
 pub mod ClosureRun
 pub mod Drain
 pub mod Resized
+pub mod Room
 pub mod Same
 pub mod TryString
 pub mod TryVec

@@ -1,7 +1,8 @@
 -- What a contract sees of a `TryVec`.
-use Rattle.std.specs.Prelude.{ℕ, ◌+◌, ◌≤◌, List, length, slice_set, refl}
+use Rattle.std.specs.Prelude.{ℕ, ◌+◌, ◌≤◌, List, length, slice_set, Result, refl}
 use Rattle.std.specs.List.{refill}
 use Rattle.std.specs.Coded.{Coded, code_by, coded×, coded_ℕ, coded_list}
+use Rattle.wic_vec.specs.Room.{MakesRoom}
 
 -- the elements in order, and how many fit with no request for memory
 pub record TryVec (T : Type 0) : Type 0 where
@@ -18,6 +19,10 @@ module _ {T : Type 0} where
   -- so many more elements fit with no request for memory
   abbrev pub HasRoomFor : TryVec T → ℕ → Type 0
   HasRoomFor v more = length v.items + more ≤ v.capacity
+
+  -- room is made for so many more elements
+  abbrev pub Reserves : {A E : Type 0} → TryVec T → TryVec T → ℕ → Result A E → Type 0
+  Reserves old new more result = MakesRoom (λ v. length v.items) (λ v. v.capacity) old new more result
 
   -- v with x at place i
   abbrev pub with_item : TryVec T → ℕ → T → TryVec T

@@ -1,5 +1,5 @@
 //! Callers of vectors, proved from their contracts alone.
-ghost use Rattle.std.specs.Prelude.{◌≡◌, ◌∷◌, [], ◌++◌, ◌==◌, ◌%◌, filter, OnOk, OnErr};
+ghost use Rattle.std.specs.Prelude.{◌≡◌, ◌∷◌, [], ◌++◌, ◌==◌, ◌%◌, filter, length, slice_index, EachIndex, OnOk, OnErr};
 
 use crate::TryVec;
 use wic_base::OutOfMemory;
@@ -20,4 +20,15 @@ pub fn keep_even(v: &mut TryVec<u32>)
     ensures even { v.new.items ≡ filter (λ number. number % 2 == 0) v.old.items }
 {
     v.retain(|number| *number % 2 == 0);
+}
+
+// What a loop writes is what each element then is.
+pub fn write_everywhere(v: &mut TryVec<u32>, number: u32)
+    ensures each { EachIndex v.new.items (λ k. slice_index v.new.items k ≡ number) }
+    ensures length { length v.new.items ≡ length v.old.items }
+    ensures capacity { v.new.capacity ≡ v.old.capacity }
+{
+    for element in v.iter_mut() {
+        *element = number;
+    }
 }

@@ -20,6 +20,7 @@
 mod boxes;
 #[cfg(test)]
 mod callers;
+mod growth;
 mod string;
 mod try_clone;
 mod vec;

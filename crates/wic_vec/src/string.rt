@@ -1,11 +1,12 @@
 //! A text whose growth can be refused.
 ghost use Rattle.std.specs.Prelude.{◌≡◌, ◌+◌, ◌<◌, ◌≤◌, ◌==◌, [], ◌++◌, length};
 ghost use Rattle.std.specs.Prelude.{encode_utf8, string_bytes, string_capacity, IsOk, IfOk, OnOk, OnErr};
-ghost use Rattle.wic_vec.specs.TryString.{HasRoomFor};
+ghost use Rattle.wic_vec.specs.TryString.{HasRoomFor, Reserves};
 
 mod compare;
 mod decimal;
 
+use crate::growth::Growth;
 use std::alloc::Global;
 use std::marker::Model;
 use wic_base::OutOfMemory;
@@ -95,53 +96,45 @@ impl TryString {
         inner
     }
 
-    /// Makes room for `additional` more bytes than there are. The text stays, and so does the value as a whole
-    /// where it has that room. After a refusal it is as before.
+    /// Makes room for `additional` more bytes than there are, and mostly for further ones, so that many small
+    /// growths cost little. The text stays, and so does the value as a whole where it has that room. It is refused only
+    /// where it doesn't, and then it is as before.
     ///
     /// A port of `TryString::reserve`.
     pub fn reserve(&mut self, additional: usize) -> Result<(), OutOfMemory>
         ensures same_text { self.new.bytes ≡ self.old.bytes }
-        ensures room { OnOk result (HasRoomFor self.new additional) }
-        ensures never_refused_within { HasRoomFor self.old additional → IsOk result }
-        ensures refused_only_beyond { OnErr result (self.old.capacity < length self.old.bytes + additional) }
-        ensures unchanged_within { HasRoomFor self.old additional → self.new ≡ self.old }
-        ensures capacity_never_falls { self.old.capacity ≤ self.new.capacity }
-        ensures refusal_leaves { OnErr result (self.new ≡ self.old) }
+        ensures reserves { Reserves self.old self.new additional result }
     {
-        if additional <= self.capacity - self.inner.len() {
-            return Ok(());
-        }
-        match self.inner.reserve(additional) {
-            Ok(()) => {
-                self.capacity = self.inner.capacity();
-                Ok(())
-            }
-            Err(_) => Err(OutOfMemory::new(self.inner.len().saturating_add(additional))),
-        }
+        self.make_room(additional, Growth::Amortized)
     }
 
-    /// Makes room as `reserve` does, and asks the allocator for no more than that.
+    /// Makes room as `reserve` does, is refused where it is, and asks the allocator for no more than that.
     ///
     /// A port of `TryString::reserve_exact`.
     pub fn reserve_exact(&mut self, additional: usize) -> Result<(), OutOfMemory>
         ensures same_text { self.new.bytes ≡ self.old.bytes }
-        ensures room { OnOk result (HasRoomFor self.new additional) }
-        ensures never_refused_within { HasRoomFor self.old additional → IsOk result }
-        ensures refused_only_beyond { OnErr result (self.old.capacity < length self.old.bytes + additional) }
-        ensures unchanged_within { HasRoomFor self.old additional → self.new ≡ self.old }
-        ensures capacity_never_falls { self.old.capacity ≤ self.new.capacity }
-        ensures refusal_leaves { OnErr result (self.new ≡ self.old) }
+        ensures reserves { Reserves self.old self.new additional result }
+    {
+        self.make_room(additional, Growth::Exact)
+    }
+
+    // Asks for memory only where there is no such room yet.
+    fn make_room(&mut self, additional: usize, growth: Growth) -> Result<(), OutOfMemory>
+        ensures same_text { self.new.bytes ≡ self.old.bytes }
+        ensures reserves { Reserves self.old self.new additional result }
     {
         if additional <= self.capacity - self.inner.len() {
             return Ok(());
         }
-        match self.inner.reserve_exact(additional) {
-            Ok(()) => {
-                self.capacity = self.inner.capacity();
-                Ok(())
-            }
-            Err(_) => Err(OutOfMemory::new(self.inner.len().saturating_add(additional))),
+        let grown = match growth {
+            Growth::Amortized => self.inner.reserve(additional),
+            Growth::Exact => self.inner.reserve_exact(additional),
+        };
+        if grown.is_err() {
+            return Err(OutOfMemory::new(self.inner.len().saturating_add(additional)));
         }
+        self.capacity = self.inner.capacity();
+        Ok(())
     }
 
     /// Gives back the memory that the text doesn't lie in, and lowers the capacity to the length. It is never refused:

@@ -3,7 +3,8 @@ ghost use Rattle.std.specs.Prelude.{◌≡◌, ◌+◌, ◌<◌, ◌≤◌, ◌�
 ghost use Rattle.std.specs.Prelude.{slice_get, vec_capacity, Some, IsOk, IsSome, IfOk, IfSome, IfNone, OnOk, OnErr};
 ghost use Rattle.std.specs.Option.{option_copied};
 ghost use Rattle.std.specs.Borrow.{sem};
-ghost use Rattle.wic_vec.specs.TryVec.{HasRoomFor};
+ghost use Rattle.std.specs.Mem.{FitsInMemory, type_size};
+ghost use Rattle.wic_vec.specs.TryVec.{HasRoomFor, Reserves};
 
 mod compare;
 mod drain;
@@ -11,9 +12,11 @@ mod iter;
 mod resize;
 mod retain;
 
+use crate::growth::Growth;
 pub use drain::Drain;
 use std::alloc::Global;
 use std::marker::Model;
+use std::mem::size_of;
 use std::ops::{Index, IndexMut};
 use wic_base::OutOfMemory;
 
@@ -67,7 +70,7 @@ impl<T> TryVec<T> {
     {
         match Vec::with_capacity(alloc, capacity) {
             Ok(inner) => Ok(TryVec { inner, capacity }),
-            Err(_) => Err(wanting(0, capacity)),
+            Err(_) => Err(wanting::<T>(0, capacity)),
         }
     }
 
@@ -93,53 +96,45 @@ impl<T> TryVec<T> {
         inner
     }
 
-    /// Makes room for `additional` more elements than there are. Elements stay, and so does the vector as a whole
-    /// where it has that room. After a refusal it is as before.
+    /// Makes room for `additional` more elements than there are, and mostly for further ones, so that many small
+    /// growths cost little. Elements stay, and so does the vector as a whole where it has that room. It is refused only
+    /// where it doesn't, and then it is as before.
     ///
     /// A port of `TryVec::reserve`.
     pub fn reserve(&mut self, additional: usize) -> Result<(), OutOfMemory>
         ensures same_items { self.new.items ≡ self.old.items }
-        ensures room { OnOk result (HasRoomFor self.new additional) }
-        ensures never_refused_within { HasRoomFor self.old additional → IsOk result }
-        ensures refused_only_beyond { OnErr result (self.old.capacity < length self.old.items + additional) }
-        ensures unchanged_within { HasRoomFor self.old additional → self.new ≡ self.old }
-        ensures capacity_never_falls { self.old.capacity ≤ self.new.capacity }
-        ensures refusal_leaves { OnErr result (self.new ≡ self.old) }
+        ensures reserves { Reserves self.old self.new additional result }
     {
-        if additional <= self.capacity - self.inner.len() {
-            return Ok(());
-        }
-        match self.inner.reserve(additional) {
-            Ok(()) => {
-                self.capacity = self.inner.capacity();
-                Ok(())
-            }
-            Err(_) => Err(wanting(self.inner.len(), additional)),
-        }
+        self.make_room(additional, Growth::Amortized)
     }
 
-    /// Makes room as `reserve` does, and asks the allocator for no more than that.
+    /// Makes room as `reserve` does, is refused where it is, and asks the allocator for no more than that.
     ///
     /// A port of `TryVec::reserve_exact`.
     pub fn reserve_exact(&mut self, additional: usize) -> Result<(), OutOfMemory>
         ensures same_items { self.new.items ≡ self.old.items }
-        ensures room { OnOk result (HasRoomFor self.new additional) }
-        ensures never_refused_within { HasRoomFor self.old additional → IsOk result }
-        ensures refused_only_beyond { OnErr result (self.old.capacity < length self.old.items + additional) }
-        ensures unchanged_within { HasRoomFor self.old additional → self.new ≡ self.old }
-        ensures capacity_never_falls { self.old.capacity ≤ self.new.capacity }
-        ensures refusal_leaves { OnErr result (self.new ≡ self.old) }
+        ensures reserves { Reserves self.old self.new additional result }
+    {
+        self.make_room(additional, Growth::Exact)
+    }
+
+    // Asks for memory only where there is no such room yet.
+    fn make_room(&mut self, additional: usize, growth: Growth) -> Result<(), OutOfMemory>
+        ensures same_items { self.new.items ≡ self.old.items }
+        ensures reserves { Reserves self.old self.new additional result }
     {
         if additional <= self.capacity - self.inner.len() {
             return Ok(());
         }
-        match self.inner.reserve_exact(additional) {
-            Ok(()) => {
-                self.capacity = self.inner.capacity();
-                Ok(())
-            }
-            Err(_) => Err(wanting(self.inner.len(), additional)),
+        let grown = match growth {
+            Growth::Amortized => self.inner.reserve(additional),
+            Growth::Exact => self.inner.reserve_exact(additional),
+        };
+        if grown.is_err() {
+            return Err(wanting::<T>(self.inner.len(), additional));
         }
+        self.capacity = self.inner.capacity();
+        Ok(())
     }
 
     /// Gives back the memory that no element lies in, and lowers the capacity to the length. It is never refused: where
@@ -336,10 +331,20 @@ impl<T> IndexMut<usize> for TryVec<T> {
     }
 }
 
-// The refusal of `additional` more elements beside `length` of them. It counts elements: their size in bytes is not to
-// be had of a type parameter.
-fn wanting(length: usize, additional: usize) -> OutOfMemory {
-    OutOfMemory::new(length.saturating_add(additional))
+// The refusal of `additional` more elements beside `length` of them: the bytes that they take.
+fn wanting<T>(length: usize, additional: usize) -> OutOfMemory {
+    OutOfMemory::new(
+        length
+            .saturating_add(additional)
+            .saturating_mul(size_of_element::<T>()),
+    )
+}
+
+// How many bytes a value takes: fewer than 2 to the power 63, as all that lies in memory.
+fn size_of_element<T>() -> usize
+    ensures { FitsInMemory T.row → result ≡ type_size T.row }
+{
+    size_of::<T>()
 }
 
 #[cfg(test)]

@@ -1,41 +1,38 @@
 //! The elements of a vector one by one, in order.
 ghost use Rattle.std.specs.Prelude.{◌≡◌, ◌^◌, ◌<◌, length};
 ghost use Rattle.std.specs.Borrow.{sem};
-ghost use Rattle.std.specs.Iterator.Runs.{YieldsInOrder, YieldsRefsInOrder, YieldsRefsInReverse};
-ghost use Rattle.std.specs.Iterator.Runs.{YieldsMutRefsInOrder, YieldsMutRefsInReverse};
-ghost use Rattle.std.specs.Slice.Iter.{iter_rest, iter_steps, iter_steps_back, iter_mut_rest, iter_mut_steps, iter_mut_steps_back};
-ghost use Rattle.std.specs.Vec.Iter.{into_iter_items, into_iter_len, into_iter_steps};
+ghost use Rattle.std.specs.Iterator.Runs.{YieldsInOrder, YieldsInReverse, YieldsRefsInOrder};
+ghost use Rattle.std.specs.Iterator.Runs.{YieldsMutRefsInOrder};
+ghost use Rattle.std.specs.Slice.Iter.{iter_rest, iter_steps, iter_mut_rest, iter_mut_steps};
+ghost use Rattle.std.specs.Vec.Iter.{into_iter_items, into_iter_len, into_iter_steps, into_iter_steps_back};
 ghost use Rattle.std.specs.declared.alloc.Global.{Global};
 
 use super::TryVec;
+use std::ops::{DerefSlice, DerefSliceMut};
 use std::slice::{Iter, IterMut};
 use std::vec::IntoIter;
 
-impl<T> TryVec<T> {
-    ghost use Rattle.wic_vec.specs.VecLends.{lends_iter};
+/// A vector acts as the slice of its elements, with all calls of slices. A port of `TryVec`'s `Deref`.
+impl<T> DerefSlice for TryVec<T> {
+    type Elem = T;
 
-    /// The elements in order, or from the back, each to be read. A port of `iter`, which `TryVec` has from slices.
-    pub fn iter(&self) -> Iter<'_, T>
-        ensures rest { iter_rest result ≡ self.now.items }
-        ensures countable { length (iter_rest result) < 2 ^ 64 }
-        ensures in_order { YieldsRefsInOrder (iter_steps {A = T}) iter_rest }
-        ensures from_the_back { YieldsRefsInReverse (iter_steps_back {A = T}) iter_rest }
-    {
-        self.inner.as_slice().iter()
+    ghost deref_gives = { λ v items. items ≡ v.items };
+
+    fn deref(&self) -> &[T] {
+        self.as_slice()
     }
+}
 
-    /// The elements in order, or from the back, each to be read and written. What is written there is what the
-    /// vector then has; its length and its capacity stay.
-    ///
-    /// A port of `iter_mut`, which `TryVec` has from slices.
-    pub fn iter_mut(&mut self) -> IterMut<'_, T>
-        ensures* writes_back { sem 𝓛 (lends_iter T.row self.entry result) }
-        ensures rest { iter_mut_rest result ≡ self.old.items }
-        ensures countable { length (iter_mut_rest result) < 2 ^ 64 }
-        ensures in_order { YieldsMutRefsInOrder (iter_mut_steps {A = T}) iter_mut_rest }
-        ensures from_the_back { YieldsMutRefsInReverse (iter_mut_steps_back {A = T}) iter_mut_rest }
+/// What is written to the slice is what the vector then has; its length and its capacity stay. A port of `TryVec`'s
+/// `DerefMut`.
+impl<T> DerefSliceMut for TryVec<T> {
+    ghost use Rattle.wic_vec.specs.VecLends.{lends_slice};
+
+    fn deref_mut(&mut self) -> &mut [T]
+        ensures* writes_back { sem 𝓛 (lends_slice T.row self.entry result) }
+        ensures items { result.now ≡ self.old.items }
     {
-        self.inner.as_mut_slice().iter_mut()
+        self.as_mut_slice()
     }
 }
 
@@ -46,7 +43,8 @@ impl<T: Drop> IntoIterator for TryVec<T> {
     type IntoIter = IntoIter<T>;
 
     ghost into_iter_gives = { λ v it. (into_iter_items it ≡ v.items) × (into_iter_len it ≡ length v.items)
-        × (length (into_iter_items it) < 2 ^ 64) × YieldsInOrder (into_iter_steps {X = T} {Z = Global}) into_iter_items };
+        × (length (into_iter_items it) < 2 ^ 64) × YieldsInOrder (into_iter_steps {X = T} {Z = Global}) into_iter_items
+        × YieldsInReverse (into_iter_steps_back {X = T} {Z = Global}) into_iter_items };
 
     fn into_iter(self) -> IntoIter<T> {
         let TryVec { inner, capacity: _ } = self;
@@ -54,7 +52,7 @@ impl<T: Drop> IntoIterator for TryVec<T> {
     }
 }
 
-/// The same as `iter`. A port of the `IntoIterator` of a `&TryVec`.
+/// The same as `iter` of the slice. A port of the `IntoIterator` of a `&TryVec`.
 impl<'a, T> IntoIterator for &'a TryVec<T> {
     type Item = &'a T;
 
@@ -64,11 +62,11 @@ impl<'a, T> IntoIterator for &'a TryVec<T> {
         × YieldsRefsInOrder (iter_steps {A = T}) iter_rest };
 
     fn into_iter(self) -> Iter<'a, T> {
-        self.iter()
+        self.as_slice().iter()
     }
 }
 
-/// The same as `iter_mut`. A port of the `IntoIterator` of a `&mut TryVec`.
+/// The same as `iter_mut` of the slice. A port of the `IntoIterator` of a `&mut TryVec`.
 impl<'a, T> IntoIterator for &'a mut TryVec<T> {
     type Item = &'a mut T;
 
@@ -84,6 +82,6 @@ impl<'a, T> IntoIterator for &'a mut TryVec<T> {
         ensures into_iter_gives { (iter_mut_rest result ≡ self.old.items) × (length (iter_mut_rest result) < 2 ^ 64)
             × YieldsMutRefsInOrder (iter_mut_steps {A = T}) iter_mut_rest }
     {
-        self.iter_mut()
+        self.as_mut_slice().iter_mut()
     }
 }

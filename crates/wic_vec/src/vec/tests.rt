@@ -2,6 +2,7 @@ ghost use Rattle.std.specs.Prelude.{◌≡◌, ◌<◌, ◌≤◌, length, rever
 ghost use Rattle.std.specs.List.{All, remove_range};
 
 use super::*;
+use crate::callers::write_everywhere;
 use std::alloc::AllocError;
 use std::cmp::Ordering;
 use std::hash::{DefaultHasher, Hash, Hasher};
@@ -41,21 +42,11 @@ fn turn_round(v: &mut TryVec<u32>)
     v.as_mut_slice().reverse();
 }
 
-fn write_everywhere(v: &mut TryVec<u32>, number: u32)
-    ensures each { EachIndex v.new.items (λ k. slice_index v.new.items k ≡ number) }
-    ensures length { length v.new.items ≡ length v.old.items }
-    ensures capacity { v.new.capacity ≡ v.old.capacity }
-{
-    for there in v.as_mut_slice() {
-        *there = number;
-    }
-}
-
 fn write_one_by_one(v: &mut TryVec<u32>, number: u32)
     ensures length { length v.new.items ≡ length v.old.items }
     ensures capacity { v.new.capacity ≡ v.old.capacity }
 {
-    for there in v.iter_mut() {
+    for there in &mut *v {
         *there = number;
     }
 }

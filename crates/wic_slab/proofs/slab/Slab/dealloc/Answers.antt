@@ -1,11 +1,10 @@
-use Rattle.std.proofs.Common.{Some, sym, ap, ◌∙◌, arith, length-set}
+use Rattle.std.proofs.Common.{Some, refl, sym, ap, ◌∙◌, arith, length-set}
 use Rattle.std.proofs.lemmas.Option.{slice_get_within}
 use Rattle.wic_slab.specs.declared.slab.Entry.TheVariants.{Vacant}
-use Rattle.wic_slab.proofs.LiveLemmas.{live_value, len_of_live, one_less_removed}
-use Rattle.wic_slab.specs.Order.{next_id}
-use Rattle.wic_slab.proofs.OrderLemmas.{next_id-give_back}
+use Rattle.wic_slab.proofs.LiveLemmas.{live_value, len_of_live}
 use Rattle.wic_slab.proofs.EntryLemmas.{occupied_at, get-occupied, live_of-vacant}
-use Rattle.wic_slab.proofs.SoundLemmas.{vacated, vacated_order}
+use Rattle.wic_slab.proofs.SoundLemmas.{vacated, vacated_order, IsSlab-sound}
+use Rattle.wic_slab.proofs.StepLemmas.{GivesBack-made}
 use Rattle.wic_slab.proofs.slab.Slab.dealloc.Goals as goal
 
 pub overflow_sub-self : goal.overflow_sub-self
@@ -34,22 +33,18 @@ returns-clause-value g c =
     let occupied = rw c.into_raw-place.ensures.number at (c.index_mut.ensures.item ∙ ap Some (sym c.replace.ensures.value ∙ c.in-Occupied.is)) in
     rw (← c.self.view_is) (get-occupied c.self.inside.entries.items c.args.id c.in-Occupied.value occupied)
 
-pub returns-clause-live : goal.returns-clause-live
-returns-clause-live g c =
+pub returns-clause-gives_back : goal.returns-clause-gives_back
+returns-clause-gives_back g c =
     let live = rw (← c.self.view_is) at c.requires in
     let found = live_value _ _ live in
-    let within = slice_get_within c.self.inside.entries.items c.args.id _ (occupied_at c.self.inside.entries.items c.args.id found.0 found.1) in
-    rw (c.replace.ensures.after, c.into_raw-place.ensures.number, ← c.self.view_is) (live_of-vacant c.self.inside.entries.items c.args.id c.self.inside.next within)
-
-pub returns-clause-order : goal.returns-clause-order
-returns-clause-order g c =
-    let live = rw (← c.self.view_is) at c.requires in
-    let found = live_value _ _ live in
-    rw (c.replace.ensures.after, c.fresh_after-self-inside.ensures, c.into_raw-place.ensures.number, ← c.self.view_is)
-    (vacated_order _ _ _ c.self.inside.fresh c.args.id found.0 c.self.invariant.0 found.1)
-
-pub returns-clause-comes_next : goal.returns-clause-comes_next
-returns-clause-comes_next g c = ap next_id (returns-clause-order g c) ∙ next_id-give_back c.args.self.now.order c.args.id
-
-pub returns-clause-one_less : goal.returns-clause-one_less
-returns-clause-one_less g c = one_less_removed _ _ c.args.id (returns-clause-live g c) c.requires
+    let occupied = occupied_at c.self.inside.entries.items c.args.id found.0 found.1 in
+    let within = slice_get_within c.self.inside.entries.items c.args.id _ occupied in
+    let sound = invariant_of-self g c in
+    GivesBack-made _ _ c.args.id
+    (rw (← c.self.view_is) c.self.invariant.0.ordered) (rw (← c.self.view_is) c.self.invariant.0.belongs) c.requires
+    (rw (c.replace.ensures.after, c.fresh_after-self-inside.ensures, c.into_raw-place.ensures.number, ← c.self.view_is)
+    (vacated_order _ _ _ c.self.inside.fresh c.args.id found.0 c.self.invariant.0 found.1))
+    (rw (c.replace.ensures.after, c.into_raw-place.ensures.number, ← c.self.view_is)
+    (live_of-vacant c.self.inside.entries.items c.args.id c.self.inside.next within))
+    (rw (← c.self.view_is) refl)
+    (IsSlab-sound _ _ _ _ _ sound.0 sound.1)
