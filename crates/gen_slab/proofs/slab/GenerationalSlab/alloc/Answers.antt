@@ -17,7 +17,7 @@ invariant_of-self-2 g c =
     let old : GenState g.row.T.Denot =
     record { live = c.self.inside.slab.live; order = c.self.inside.slab.order; count = c.self.inside.count } in
     let new = c.alloc.new.self in
-    counted_live (with_next old c.args.value) new.live new.order old.count c.in-Ok.ensures.live refl
+    counted_live (with_next old c.args.value) new.live new.order old.count c.in-Ok.ensures.holds.live refl
     (counted_next old c.args.value c.self.invariant)
 
 pub returns-clause-found : goal.returns-clause-found
@@ -25,6 +25,6 @@ returns-clause-found g c =
     let old : GenState g.row.T.Denot =
     record { live = c.self.inside.slab.live; order = c.self.inside.slab.order; count = c.self.inside.count } in
     let value = c.args.value in
-    ap (λ m. option_and_then (value_in {T = g.row.T.Denot} old.count) (get m c.in-Ok.id)) c.in-Ok.ensures.live
-    ∙ ap (λ i. value_of (with_next old value) (record { id = i; generation = old.count })) c.in-Ok.ensures.id
+    ap (λ m. option_and_then (value_in {T = g.row.T.Denot} old.count) (get m c.in-Ok.id)) c.in-Ok.ensures.holds.live
+    ∙ ap (λ i. value_of (with_next old value) (record { id = i; generation = old.count })) c.in-Ok.ensures.holds.id_is
     ∙ next_lives old value

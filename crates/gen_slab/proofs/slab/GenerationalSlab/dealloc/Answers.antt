@@ -10,7 +10,7 @@ invariant_of-self g c =
     let old : GenState g.row.T.Denot =
     record { live = c.self.inside.slab.live; order = c.self.inside.slab.order; count = c.self.inside.count } in
     let new = c.dealloc-value.new.self in
-    let live = c.dealloc-value.ensures.live ∙ ap (λ h. remove old.live h.id) c.handle.view_is in
+    let live = c.dealloc-value.ensures.gives_back.live ∙ ap (λ h. remove old.live h.id) c.handle.view_is in
     let count : c.min-self-inside.result ≡ (without old c.args.handle).count = omega arith in
     counted_live (without old c.args.handle) new.live new.order c.min-self-inside.result live count
     (counted_without old c.args.handle c.self.invariant)
@@ -20,5 +20,5 @@ returns-clause-gone g c =
     let old : GenState g.row.T.Denot =
     record { live = c.self.inside.slab.live; order = c.self.inside.slab.order; count = c.self.inside.count } in
     let handle = c.args.handle in
-    let live = c.dealloc-value.ensures.live ∙ ap (λ h. remove old.live h.id) c.handle.view_is in
+    let live = c.dealloc-value.ensures.gives_back.live ∙ ap (λ h. remove old.live h.id) c.handle.view_is in
     ap (λ m. option_and_then (value_in {T = g.row.T.Denot} handle.generation) (get m handle.id)) live ∙ dead_after old handle
