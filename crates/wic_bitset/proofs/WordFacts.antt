@@ -67,19 +67,19 @@ contains-set_of_words w words q some = contains-filter_range (has w words) 0 (le
 
 module _ (w : ℕ) (words : List ℕ) (k m : ℕ) (some : 0 < w) (within : k < length words) where
   -- a number of the word, now and before
-  here_now : (q : ℕ) → q / w ≡ k → contains (set_of_words w (set words k m)) q ≡ contains (set_of w m) (q % w)
+  pub here_now : (q : ℕ) → q / w ≡ k → contains (set_of_words w (set words k m)) q ≡ contains (set_of w m) (q % w)
   here_now q here =
       let word : get_or (set words k m) (q / w) 0 ≡ m = ap (λ x. get_or (set words k m) x 0) here ∙ get_or-set_same words k m 0 within in
       contains-set_of_words w (set words k m) q some ∙ ap (λ x. is_one x (q % w)) word
       ∙ sym (contains_below w m (q % w) (mod_below q w some))
 
-  here_before : (q : ℕ) → q / w ≡ k → contains (set_of_words w words) q ≡ contains (set_of w (get_or words k 0)) (q % w)
+  pub here_before : (q : ℕ) → q / w ≡ k → contains (set_of_words w words) q ≡ contains (set_of w (get_or words k 0)) (q % w)
   here_before q here =
       contains-set_of_words w words q some ∙ ap (λ x. is_one (get_or words x 0) (q % w)) here
       ∙ sym (contains_below w (get_or words k 0) (q % w) (mod_below q w some))
 
   -- any other number
-  elsewhere : (q : ℕ) → q / w ≢ k → contains (set_of_words w (set words k m)) q ≡ contains (set_of_words w words) q
+  pub elsewhere : (q : ℕ) → q / w ≢ k → contains (set_of_words w (set words k m)) q ≡ contains (set_of_words w words) q
   elsewhere q apart =
       contains-set_of_words w (set words k m) q some
       ∙ ap (λ x. is_one x (q % w)) (get_or-set_other words k (q / w) m 0 apart)
@@ -113,7 +113,7 @@ module _ {X : Type 0} (f : X → ℕ) where
   in_no_word w i items some none =
       contains-set_of_words w (map f items) i some ∙ ap (λ n. is_one n (i % w)) (map_past f items (i / w) none) ∙ is_one-zero (i % w)
 
-  below_length : (items : List X) (k : ℕ) (x : X) → slice_get items k ≡ Some x → k < length (map f items)
+  pub below_length : (items : List X) (k : ℕ) (x : X) → slice_get items k ≡ Some x → k < length (map f items)
   below_length [] k x found = absurd (cc)
   below_length (y ∷ items) zero x found = omega arith
   below_length (y ∷ items) (suc k) x found = let rest = below_length items k x found in omega arith
@@ -177,6 +177,14 @@ module _ {X : Type 0} (f : X → ℕ) where
 
   pub no_word_is_empty : (w k : ℕ) (items : List X) → 0 < w → slice_get items k ≡ None → IsWordEmpty w (set_of_words w (map f items)) k
   no_word_is_empty w k items some none i at = in_no_word f w i items some (subst (λ q. slice_get items q ≡ None) (sym at) none)
+
+  -- where there is no word k, a word without members is word k
+  pub no_word_of : (w k : ℕ) (items : List X) (n : ℕ) → slice_get items k ≡ None → members_of w n ≡ []
+      → IsWordOf w (set_of_words w (map f items)) k n
+  no_word_of w k items n none clear j low =
+      let some : 0 < w = omega arith in
+      contains_below w n j low ∙ none_from_members w n j clear low
+      ∙ sym (no_word_is_empty w k items some none (k * w + j) (div-mul-add k w j low))
 
   pub within_words : (w i : ℕ) (items : List X) → 0 < w → contains (set_of_words w (map f items)) i ≡ true → i < length items * w
   within_words w i items some there = subst (λ n. i < n * w) (length-map items f) (below_capacity w (map f items) i some there)
@@ -246,7 +254,7 @@ none_of_set w n j none low = contains_below w n j low ∙ none_from_members w n 
 
 module _ (w : ℕ) (s : FinSet nat_cmp) (k n : ℕ) (some : 0 < w) (word : IsWordOf w s k n) where
   -- a number of the word by its digit
-  by_digit : (i : ℕ) → i / w ≡ k → contains s i ≡ contains (set_of w n) (i % w)
+  pub by_digit : (i : ℕ) → i / w ≡ k → contains s i ≡ contains (set_of w n) (i % w)
   by_digit i at =
       let place : i ≡ k * w + i % w = sym (div-add-mod' i w) ∙ ap (λ k. k * w + i % w) at in
       ap (contains s) place ∙ sym (word (i % w) (mod_below i w some))

@@ -1,4 +1,5 @@
 -- What contracts see of a set.
+pub mod Combination
 pub mod Compound
 pub mod Greatest
 pub mod Growth

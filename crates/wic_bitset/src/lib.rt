@@ -24,9 +24,10 @@
 //!
 //! # On want of memory
 //!
-//! Only `insert` and the calls with `capacity` in their names grow a set. Each is refused only where the number isn't
-//! below the capacity, and after a refusal the members, the greatest of them and the capacity are as before: free memory
-//! and call again, or go on without. A caller that must not be refused later asks once, by `try_ensure_capacity`.
+//! Only `insert`, `union_with` and the calls with `capacity` in their names grow a set. Each is refused only where the
+//! number, for `union_with` a member of the other set, isn't below the capacity, and after a refusal the members, the
+//! greatest of them and the capacity are as before: free memory and call again, or go on without. A caller that must not
+//! be refused later asks once, by `try_ensure_capacity`.
 //! `try_clone` and `members` take memory for what they answer, and leave the set.
 //!
 //! # What it doesn't protect against
@@ -44,11 +45,13 @@
 //! | `remove`, `pop` | constant; where the greatest member goes, the summary words down to that of the next one |
 //! | `iter`, `len` | the summary words up to that of the greatest member, and the words that have a member, each once |
 //! | `members` | all summary words, and the words that have a member, each once: this is a clause |
+//! | `union_with`, `intersect_with`, `subtract`, `is_subset`, `is_disjoint` | a step a word, up to that of a greatest member |
 //! | `iter_scalars`, `clear`, `try_clone` | the words |
 #![tactic(auto)]
 
 #[cfg(test)]
 mod callers;
+mod combination;
 mod compared;
 mod growth;
 mod iter;

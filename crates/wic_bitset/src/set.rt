@@ -12,6 +12,8 @@ ghost use Rattle.wic_bitset.specs.Rising.{rising, word_members};
 ghost use Rattle.wic_bitset.specs.Summary.{block_members, block_words, filled_words, Summarizes};
 ghost use Rattle.wic_bitset.specs.Words.{AreWords, EndsBefore, IsWordEmpty};
 
+mod pairs;
+
 use crate::growth::grown_count;
 use crate::iter::Iter;
 use crate::iter_scalars::IterScalars;

@@ -3,10 +3,12 @@
 ghost use Rattle.std.specs.Prelude.{◌≡◌, ◌+◌, ◌*◌, ◌<◌, ◌≤◌, ◌↔◌, ◌++◌, ℕ, not, true, length, map};
 ghost use Rattle.std.specs.Prelude.{IsTrue, IsOk, OnOk, OnErr, IfOk};
 ghost use Rattle.std.specs.FinSet as fin_set;
+ghost use Rattle.wic_bitset.specs.Combination.{CombinesBelow, CombinesToNone, CombinesWord, MarksBelow, TellsChange};
 ghost use Rattle.wic_bitset.specs.Greatest.{IsMax};
 ghost use Rattle.wic_bitset.specs.Rising.{members_between, word_members};
 ghost use Rattle.wic_bitset.specs.Words.{most_words, greatest_start, AreFirstWords, EndsBefore, IsMaxOfWord, IsWordEmpty, IsWordOf};
 
+use crate::combination::Combination;
 use crate::steps::Steps;
 use crate::store_iter::StoreIter;
 use crate::word_iter::WordIter;
@@ -167,6 +169,69 @@ impl<T: ScalarBitSetStorage> Store<T> {
         }
     }
 
+    /// Makes of each of the first `end` words what `how` makes of it and of that of `other`, and answers whether a member
+    /// came or went. Where `other` has no such word it counts as empty.
+    pub fn combine(&mut self, other: &Store<T>, how: Combination, end: usize) -> bool
+        requires { end ≤ self.old.count }
+        ensures members { CombinesBelow T.width how end self.old.members other.now.members self.new.members }
+        ensures changed { TellsChange result self.old.members self.new.members }
+        ensures count { self.new.count ≡ self.old.count }
+        ensures room { self.new.room ≡ self.old.room }
+    {
+        let mut changed = false;
+        for k in 0..end {
+            if self.combine_word(other, how, k) {
+                changed = true;
+            }
+        }
+        changed
+    }
+
+    // Makes of word `k` what `how` makes of it and of that of `other`, and answers whether a member came or went.
+    fn combine_word(&mut self, other: &Store<T>, how: Combination, k: usize) -> bool
+        requires { k < self.old.count }
+        ensures members { CombinesWord T.width how k self.old.members other.now.members self.new.members }
+        ensures changed { TellsChange result self.old.members self.new.members }
+        ensures count { self.new.count ≡ self.old.count }
+        ensures room { self.new.room ≡ self.old.room }
+    {
+        let old = self.words[k];
+        let new = how.of_words(old, other.word_or_empty(k));
+        self.words[k] = new;
+        let same = new == old;
+        !same
+    }
+
+    /// Whether what `how` makes of the first `end` words and of those of `other` has no member.
+    pub fn combines_to_none(&self, other: &Store<T>, how: Combination, end: usize) -> bool
+        ensures { IsTrue result ↔ CombinesToNone T.width how end self.now.members other.now.members }
+    {
+        for k in 0..end {
+            let word = how.of_words(self.word_or_empty(k), other.word_or_empty(k));
+            if !word.is_empty() {
+                return false;
+            }
+        }
+        true
+    }
+
+    /// Makes this, whose numbers are those of words, have of the first `end` numbers just those whose word in `words` has
+    /// a member.
+    pub fn mark(&mut self, words: &Store<T>, end: usize)
+        requires { end ≤ self.old.count * T.width }
+        ensures marks { MarksBelow T.width words.now.members end self.old.members self.new.members }
+        ensures count { self.new.count ≡ self.old.count }
+        ensures room { self.new.room ≡ self.old.room }
+    {
+        for k in 0..end {
+            if words.is_word_empty(k) {
+                self.remove(k);
+            } else {
+                self.insert(k);
+            }
+        }
+    }
+
     /// The greatest member in word `k`, or `None` exactly where it is empty.
     pub fn max_of_word(&self, k: usize) -> Option<usize>
         requires { k < self.now.count }
@@ -238,6 +303,16 @@ impl<T: ScalarBitSetStorage> Store<T> {
         ensures { IsWordOf T.width self.now.members k (T.number result.0) }
     {
         self.words[k]
+    }
+
+    // Word `k`, or an empty one where there is none.
+    fn word_or_empty(&self, k: usize) -> ScalarBitSet<T>
+        ensures { IsWordOf T.width self.now.members k (T.number result.0) }
+    {
+        match self.words.get(k) {
+            Some(word) => *word,
+            None => ScalarBitSet::new(),
+        }
     }
 
     // The first number of word `k`.

@@ -172,6 +172,89 @@ fn words_come_up_to_that_of_the_greatest(rt: HostRuntime) -> Result<(), Fail> {
     Ok(())
 }
 
+// Two sets, and what is in either, in both, and in the first alone.
+struct Pair<'a> {
+    left: &'a [u32],
+    right: &'a [u32],
+    either: &'a [u32],
+    both: &'a [u32],
+    left_alone: &'a [u32],
+}
+
+const PAIRS: [Pair<'static>; 5] = [
+    Pair {
+        left: &[],
+        right: &[],
+        either: &[],
+        both: &[],
+        left_alone: &[],
+    },
+    Pair {
+        left: &[1, 5],
+        right: &[5, 9],
+        either: &[1, 5, 9],
+        both: &[5],
+        left_alone: &[1],
+    },
+    Pair {
+        left: &[7],
+        right: &[700],
+        either: &[7, 700],
+        both: &[],
+        left_alone: &[7],
+    },
+    Pair {
+        left: &[3, 70, 5000],
+        right: &[70, 5000],
+        either: &[3, 70, 5000],
+        both: &[70, 5000],
+        left_alone: &[3],
+    },
+    Pair {
+        left: &[15, 16, 4096],
+        right: &[15, 17],
+        either: &[15, 16, 17, 4096],
+        both: &[15],
+        left_alone: &[16, 4096],
+    },
+];
+
+fn matches_pair(rt: &impl Abort, alloc: Global, pair: &Pair<'_>) -> Result<(), Fail> {
+    let left = set_of::<u16>(alloc, pair.left)?;
+    let right = set_of::<u16>(alloc, pair.right)?;
+    let (mut either, mut both, mut alone) = (
+        left.try_clone(alloc)?,
+        left.try_clone(alloc)?,
+        left.try_clone(alloc)?,
+    );
+    assert_eq!(rt;
+        either.union_with(&right)?,
+        pair.either.len() > pair.left.len()
+    );
+    assert_eq!(rt;
+        both.intersect_with(&right),
+        pair.both.len() < pair.left.len()
+    );
+    assert_eq!(rt;
+        alone.subtract(&right),
+        pair.left_alone.len() < pair.left.len()
+    );
+    assert!(rt; either == set_of(alloc, pair.either)?);
+    assert!(rt; both == set_of(alloc, pair.both)?);
+    assert!(rt; alone == set_of(alloc, pair.left_alone)?);
+    assert_eq!(rt; left.is_subset(&right), pair.left_alone.is_empty());
+    assert_eq!(rt; left.is_disjoint(&right), pair.both.is_empty());
+    Ok(())
+}
+
+#[test]
+fn two_sets_are_joined_and_parted_by_words(rt: HostRuntime) -> Result<(), Fail> {
+    for pair in &PAIRS {
+        matches_pair(&rt, rt.alloc(), pair)?;
+    }
+    Ok(())
+}
+
 fn hash_of<T: ScalarBitSetStorage>(set: &CompoundBitSet<T>) -> u64 {
     let mut hasher = DefaultHasher::new();
     set.hash(&mut hasher);
