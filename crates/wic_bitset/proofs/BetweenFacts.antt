@@ -14,7 +14,7 @@ use Rattle.std.proofs.lemmas.List.FromFn.{length-range_with_len, get_or-range_wi
 use Rattle.std.proofs.lemmas.List.Kept.{IsStrictlyIncreasing-filter}
 use Rattle.wic_bitset.specs.Rising.{members_between, word_members}
 use Rattle.wic_bitset.proofs.DivisionFacts.{next_start}
-use Rattle.wic_bitset.proofs.SetFacts.{contains-filter_range}
+use Rattle.wic_scalar.proofs.SetFacts.{contains-filter_range}
 
 -- ---- a range that a test filters
 

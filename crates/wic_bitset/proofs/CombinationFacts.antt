@@ -15,7 +15,7 @@ use Rattle.std.proofs.lemmas.List.{map-set}
 use Rattle.std.proofs.lemmas.Nat.{div_below, div-mul-add, mod-mul-add, mod_below}
 use Rattle.wic_scalar.specs.Digits.{is_one}
 use Rattle.wic_scalar.specs.Scalar.{members_of}
-use Rattle.wic_scalar.proofs.MemberLemmas.{members_of-none, members_of-same, none_from_members, same_from_members}
+use Rattle.wic_scalar.proofs.MemberLemmas.{contains_below, members_of-none, members_of-same, none_from_members, same_from_members}
 use Rattle.wic_bitset.specs.Combination.{combined, TellsChange, CombinesWord, CombinesBelow, CombinesToNone, LeavesFrom}
 use Rattle.wic_bitset.specs.Combination.{MarksBelow}
 use Rattle.wic_bitset.specs.Compound.{HasMore}
@@ -25,9 +25,9 @@ use Rattle.wic_bitset.specs.Words.{Words, EndsBefore, IsWordOf, IsWordEmpty, set
 use Rattle.wic_bitset.specs.declared.combination.Combination.{Combination}
 use Rattle.wic_bitset.specs.declared.combination.Combination.TheVariants.{Union, Intersection, Difference}
 use Rattle.wic_bitset.proofs.DivisionFacts.{div_mono}
-use Rattle.wic_bitset.proofs.SetFacts.{there_after_insert, same_after_insert, gone_after_remove, same_after_remove, empty_of_none}
-use Rattle.wic_bitset.proofs.SetFacts.{none_in_empty}
-use Rattle.wic_bitset.proofs.WordFacts.{contains_below, here_now, elsewhere, below_length, in_word, by_digit}
+use Rattle.wic_scalar.proofs.SetFacts.{there_after_insert, same_after_insert, gone_after_remove, same_after_remove, empty_of_none}
+use Rattle.wic_scalar.proofs.SetFacts.{none_in_empty}
+use Rattle.wic_bitset.proofs.WordFacts.{here_now, elsewhere, below_length, in_word, by_digit}
 
 -- two sets with the same members are one
 same_members : (s t : FinSet nat_cmp) → ((i : ℕ) → contains s i ≡ contains t i) → s ≡ t

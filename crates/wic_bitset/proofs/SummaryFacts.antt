@@ -15,8 +15,8 @@ use Rattle.wic_bitset.specs.Summary.{Summarizes, block_words, filled_words}
 use Rattle.wic_bitset.proofs.ByWordFacts.{filled_words-empty}
 use Rattle.wic_bitset.proofs.DivisionFacts.{below_div_ceil, div_ceil-reaches}
 use Rattle.wic_bitset.proofs.GreatestFacts.{greatest_of_last_word}
-use Rattle.wic_bitset.proofs.SetFacts.{empty_of_none, none_in_empty, there_after_insert, same_after_insert, gone_after_remove}
-use Rattle.wic_bitset.proofs.SetFacts.{same_after_remove, same_by_absence, was_before_remove}
+use Rattle.wic_scalar.proofs.SetFacts.{empty_of_none, none_in_empty, there_after_insert, same_after_insert, gone_after_remove}
+use Rattle.wic_scalar.proofs.SetFacts.{same_after_remove, same_by_absence, was_before_remove}
 
 -- other words are as empty as before
 other_word : (w i k : ℕ) (s t : FinSet nat_cmp) → ((q : ℕ) → q ≢ i → contains t q ≡ contains s q) → k ≢ i / w

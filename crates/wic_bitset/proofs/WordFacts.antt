@@ -16,14 +16,10 @@ use Rattle.std.proofs.lemmas.Nat.{div_below, mod_below, le-div, div-mul-add, mod
 use Rattle.wic_scalar.specs.Digits.{is_one}
 use Rattle.wic_scalar.specs.Scalar.{set_of, members_of}
 use Rattle.wic_scalar.proofs.DigitLemmas.{is_one-zero}
-use Rattle.wic_scalar.proofs.MemberLemmas.{contains-set_of, Contains-set_of, members_of-none, none_from_members}
-use Rattle.wic_bitset.proofs.SetFacts.{contains-filter_range, empty_of_none, there_after_insert, same_after_insert, gone_after_remove}
-use Rattle.wic_bitset.proofs.SetFacts.{same_after_remove}
+use Rattle.wic_scalar.proofs.MemberLemmas.{contains_below, contains-set_of, Contains-set_of, members_of-none, none_from_members}
+use Rattle.wic_scalar.proofs.SetFacts.{contains-filter_range, empty_of_none, there_after_insert, same_after_insert, gone_after_remove}
+use Rattle.wic_scalar.proofs.SetFacts.{same_after_remove}
 use Rattle.wic_bitset.specs.Words.{has, set_of_words, AreFirstWords, EndsBefore, IsGreatestOfWord, IsWordOf, IsWordEmpty}
-
--- a member by its digit
-pub contains_below : (w n k : ℕ) → k < w → contains (set_of w n) k ≡ is_one n k
-contains_below w n k below = contains-set_of w n k ∙ grind (arith, nat_tests)
 
 -- ---- the compound set
 

@@ -1,4 +1,5 @@
 pub mod DigitLemmas
 pub mod MemberLemmas
+pub mod SetFacts
 pub mod SetLemmas
 pub mod Widths

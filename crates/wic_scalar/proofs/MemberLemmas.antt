@@ -106,6 +106,14 @@ contains-set_of w n q = contains-from_list_nat (members_of w n) q ∙ any_in (is
 same_members : (w : ℕ) (n : ℕ) (s : FinSet nat_cmp) → ((q : ℕ) → contains s q ≡ (nat_lt q w && is_one n q)) → set_of w n ≡ s
 same_members w n s is = same_set nat_cmp_total nat_cmp-IsAntisymmetric (set_of w n) s (λ q. contains-set_of w n q ∙ sym (is q))
 
+-- no member is at the width or above
+pub below_width : (w n k : ℕ) → contains (set_of w n) k ≡ true → k < w
+below_width w n k there = let e : (nat_lt k w && is_one n k) ≡ true = sym (contains-set_of w n k) ∙ there in grind (arith, nat_tests)
+
+-- a number below the width by its digit
+pub contains_below : (w n k : ℕ) → k < w → contains (set_of w n) k ≡ is_one n k
+contains_below w n k below = contains-set_of w n k ∙ grind (arith, nat_tests)
+
 -- i is put in
 pub set_of-insert : (w n m i : ℕ) → i < w → ((q : ℕ) → q < w → is_one m q ≡ (is_one n q || (q == i))) → set_of w m ≡ insert (set_of w n) i
 set_of-insert w n m i within digits =

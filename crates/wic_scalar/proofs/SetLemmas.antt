@@ -1,13 +1,15 @@
 -- What the calls of a set stand on, from the laws of its storage.
-use Rattle.std.proofs.Common.{⊎_elim, ◌≡◌, ℕ, ◌-◌, ◌<◌, ◌≤◌, Bool, false, not, ◌&&◌, ◌||◌, [], sym, ap, ◌∙◌, arith, ◌↔◌, IsTrue}
+use Rattle.std.proofs.Common.{⊎_elim, ◌≡◌, ℕ, ◌+◌, ◌-◌, ◌<◌, ◌≤◌, Bool, true, false, not, ◌&&◌, ◌||◌, cond, [], length, sym, ap, ◌∙◌, arith, ◌↔◌, IsTrue}
 use Rattle.std.specs.Prelude.{◌==◌, nat_lt, nat_eq}
 use Rattle.std.specs.List.{range_with_len}
-use Rattle.std.specs.FinSet.{contains, insert, remove}
+use Rattle.std.specs.Cmp.{nat_cmp_total}
+use Rattle.std.specs.FinSet.{contains, insert, remove, len, len-insert}
 use Rattle.std.proofs.lemmas.Bool.{cases_eq, cases_lt, cases_Bool, iff_false}
 use Rattle.std.proofs.lemmas.Bool.Decides.{nat_tests, same_from_decides}
 use Rattle.std.specs.Cmp.Lexicographic.{pointwise, bytes_decides}
 use Rattle.wic_scalar.specs.Digits.{is_one, SameDigits, IsLowZeros, IsHighZeros}
 use Rattle.wic_scalar.specs.Scalar.{members_of, set_of}
+use Rattle.wic_scalar.proofs.SetFacts.{at_most_in, count_in, insert-remove, gone_after_remove, remove_absent}
 use Rattle.wic_scalar.proofs.MemberLemmas.{contains-set_of, set_of-insert, set_of-remove, members_of-none, none_from_members, members_of-range, members_of-same, same_from_members}
 
 -- z is the number 0
@@ -80,3 +82,46 @@ same_members_from_test w m n r test =
 pub eq_from_test : (w m n : ℕ) (r : Bool) → (IsTrue r ↔ SameDigits w m n) → r ≡ pointwise nat_eq (members_of w m) (members_of w n)
 eq_from_test w m n r test =
     same_from_decides r (pointwise nat_eq (members_of w m) (members_of w n)) (same_members_from_test w m n r test) (bytes_decides (members_of w m) (members_of w n))
+
+-- ---- how many members there are
+
+-- no more than the width
+pub length-members_of-le : (w n : ℕ) → length (members_of w n) ≤ w
+unfolding members_of
+length-members_of-le w n = at_most_in (is_one n) 0 w
+
+-- the list of the members has as many as the set
+pub len-set_of : (w n : ℕ) → len (set_of w n) ≡ length (members_of w n)
+unfolding members_of
+len-set_of w n = count_in (is_one n) 0 w
+
+-- one more once a number is put in that wasn't there
+pub length-inserted : (w n m i : ℕ) (new : Bool) → new ≡ not (contains (set_of w n) i) → set_of w m ≡ insert (set_of w n) i
+    → length (members_of w m) ≡ length (members_of w n) + cond new 1 0
+length-inserted w n m i new is set =
+    let counted = len-insert nat_cmp_total (set_of w n) i in
+    let before = len-set_of w n in
+    let after = len-set_of w m in
+    let same : len (set_of w m) ≡ len (insert (set_of w n) i) = ap len set in
+    ⊎_elim
+    (λ yes. let e = rw yes at counted in let no : new ≡ false = is ∙ ap not yes in rw no (omega arith))
+    (λ no. let e = rw no at counted in let yes : new ≡ true = is ∙ ap not no in rw yes (omega arith))
+    (cases_Bool (contains (set_of w n) i))
+
+-- one less once a member is taken out
+pub length-removed : (w n m i : ℕ) (there : Bool) → there ≡ contains (set_of w n) i → set_of w m ≡ remove (set_of w n) i
+    → length (members_of w m) + cond there 1 0 ≡ length (members_of w n)
+length-removed w n m i there is set =
+    let again = len-insert nat_cmp_total (set_of w m) i in
+    let before = len-set_of w n in
+    let after = len-set_of w m in
+    ⊎_elim
+    (λ yes.
+    let back : insert (set_of w m) i ≡ set_of w n = ap (λ t. insert t i) set ∙ insert-remove (set_of w n) i yes in
+    let gone : contains (set_of w m) i ≡ false = ap (λ t. contains t i) set ∙ gone_after_remove (set_of w n) i in
+    let e = rw (gone, back) at again in
+    let here : there ≡ true = is ∙ yes in rw here (omega arith))
+    (λ no.
+    let same : len (set_of w m) ≡ len (set_of w n) = ap len (set ∙ remove_absent (set_of w n) i no) in
+    let absent : there ≡ false = is ∙ no in rw absent (omega arith))
+    (cases_Bool (contains (set_of w n) i))

@@ -1,5 +1,5 @@
 //! A set of small numbers in one integer.
-ghost use Rattle.std.specs.Prelude.{◌≡◌, ◌==◌, ◌↔◌, ◌-◌, ◌<◌, ◌≤◌, ℕ, nat_eq, List, [], ◌∷◌, ◌++◌, length, not, IsTrue, IsNone, IfNone, IfSome, All, Contains};
+ghost use Rattle.std.specs.Prelude.{◌≡◌, ◌==◌, ◌↔◌, ◌+◌, ◌-◌, ◌<◌, ◌≤◌, ℕ, nat_eq, List, [], ◌∷◌, ◌++◌, length, not, if◌then◌else◌, IsTrue, IsNone, IfNone, IfSome, All, Contains};
 ghost use Rattle.std.specs.List.{range_with_len};
 ghost use Rattle.std.specs.List.Sorted.{IsStrictlyIncreasing};
 ghost use Rattle.std.specs.Cmp.{on_equiv, on_per, partial_equiv_from_equiv};
@@ -42,7 +42,8 @@ impl<T: ScalarBitSetStorage> ScalarBitSet<T> {
     /// How many numbers the set can hold: each is below this. Port of `ScalarBitSet::capacity`.
     #[inline]
     pub fn capacity() -> u8
-        ensures { result ≡ T.width }
+        ensures width { result ≡ T.width }
+        ensures positive { 0 < result }
     {
         T::width()
     }
@@ -50,7 +51,8 @@ impl<T: ScalarBitSetStorage> ScalarBitSet<T> {
     /// How many members there are. Port of `ScalarBitSet::len`.
     #[inline]
     pub fn len(&self) -> u8
-        ensures { result ≡ length (members_of T.width (T.number self.now.0)) }
+        ensures count { result ≡ length (members_of T.width (T.number self.now.0)) }
+        ensures within { result ≤ T.width }
     {
         self.0.count_ones()
     }
@@ -79,10 +81,14 @@ impl<T: ScalarBitSetStorage> ScalarBitSet<T> {
         requires { i < T.width }
         ensures new { result ≡ not (fin_set.contains (set_of T.width (T.number self.old.0)) i) }
         ensures set { set_of T.width (T.number self.new.0) ≡ fin_set.insert (set_of T.width (T.number self.old.0)) i }
+        ensures count { length (members_of T.width (T.number self.new.0))
+            ≡ length (members_of T.width (T.number self.old.0)) + (if result then 1 else 0) }
     {
-        let is_new = !self.contains(i);
+        if self.contains(i) {
+            return false;
+        }
         self.0 = self.0.bit_or(T::bit(i));
-        is_new
+        true
     }
 
     /// Takes `i`, which is below `capacity()`, out, and answers whether it was there.
@@ -92,10 +98,14 @@ impl<T: ScalarBitSetStorage> ScalarBitSet<T> {
         requires { i < T.width }
         ensures present { result ≡ fin_set.contains (set_of T.width (T.number self.old.0)) i }
         ensures set { set_of T.width (T.number self.new.0) ≡ fin_set.remove (set_of T.width (T.number self.old.0)) i }
+        ensures count { length (members_of T.width (T.number self.new.0)) + (if result then 1 else 0)
+            ≡ length (members_of T.width (T.number self.old.0)) }
     {
-        let was_present = self.contains(i);
+        if !self.contains(i) {
+            return false;
+        }
         self.0 = self.0.bit_and(T::bit(i).bit_not());
-        was_present
+        true
     }
 
     /// Takes every member out. Port of `ScalarBitSet::clear`.
@@ -112,13 +122,18 @@ impl<T: ScalarBitSetStorage> ScalarBitSet<T> {
     pub fn pop_min(&mut self) -> Option<u8>
         ensures none { IsNone result ↔ (members_of T.width (T.number self.old.0) ≡ []) }
         ensures stays { IfNone result (self.new ≡ self.old) }
+        ensures within { IfSome result (λ x. x < T.width) }
         ensures first { IfSome result (λ x. members_of T.width (T.number self.old.0) ≡ x ∷ members_of T.width (T.number self.new.0)) }
         ensures least { IfSome result (λ x. All (λ k. x ≤ k) (members_of T.width (T.number self.old.0))) }
         ensures set { IfSome result (λ x. set_of T.width (T.number self.new.0) ≡ fin_set.remove (set_of T.width (T.number self.old.0)) x) }
     {
-        let min = self.min()?;
-        self.remove(min);
-        Some(min)
+        match self.min() {
+            Some(least) => {
+                self.remove(least);
+                Some(least)
+            }
+            None => None,
+        }
     }
 
     /// Takes the greatest member out and answers it, or `None` where there is none.
@@ -127,13 +142,18 @@ impl<T: ScalarBitSetStorage> ScalarBitSet<T> {
     pub fn pop_max(&mut self) -> Option<u8>
         ensures none { IsNone result ↔ (members_of T.width (T.number self.old.0) ≡ []) }
         ensures stays { IfNone result (self.new ≡ self.old) }
+        ensures within { IfSome result (λ x. x < T.width) }
         ensures last { IfSome result (λ x. members_of T.width (T.number self.old.0) ≡ members_of T.width (T.number self.new.0) ++ x ∷ []) }
         ensures greatest { IfSome result (λ x. All (λ k. k ≤ x) (members_of T.width (T.number self.old.0))) }
         ensures set { IfSome result (λ x. set_of T.width (T.number self.new.0) ≡ fin_set.remove (set_of T.width (T.number self.old.0)) x) }
     {
-        let max = self.max()?;
-        self.remove(max);
-        Some(max)
+        match self.max() {
+            Some(most) => {
+                self.remove(most);
+                Some(most)
+            }
+            None => None,
+        }
     }
 
     /// The least member, or `None` where there is none. Port of `ScalarBitSet::min`.
@@ -170,6 +190,7 @@ impl<T: ScalarBitSetStorage> ScalarBitSet<T> {
     #[inline]
     pub fn iter(self) -> Iter<T>
         ensures members { result ≡ members_of T.width (T.number self.0) }
+        ensures within { All (λ k. k < T.width) result }
         ensures rising { IsStrictlyIncreasing result }
     {
         Iter { bitset: self }

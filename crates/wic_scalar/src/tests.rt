@@ -1,6 +1,7 @@
 //! The worked examples, and each call over every set of `u16` against a plain list of bits.
 ghost use Rattle.std.specs.Prelude.{◌<◌, ◌≤◌};
 
+use crate::callers::take_least;
 use crate::{ScalarBitSet, ScalarBitSetStorage};
 use std::alloc::{AllocError, Global};
 use std::process::Abort;
@@ -68,7 +69,7 @@ fn pops_come_from_either_end(rt: HostRuntime) {
     let start: ScalarBitSet<u64> = set_of_places(&[0, 24, 13, 36]);
     let mut rising = start;
     for expected in [Some(0), Some(13), Some(24), Some(36), None] {
-        assert_eq!(rt; rising.pop_min(), expected);
+        assert_eq!(rt; take_least(&mut rising), expected);
     }
     let mut falling = start;
     for expected in [Some(36), Some(24)] {

@@ -1,8 +1,13 @@
 use Rattle.std.proofs.Common.{◌≡◌, ◌*◌, ◌<◌, Result, Ok, Err, true, sym, ap, subst, ◌∙◌}
 use Rattle.std.specs.Prelude.{IsOk, OnOk}
 use Rattle.std.specs.FinSet.{contains, insert}
-use Rattle.wic_bitset.proofs.SetFacts.{insert-remove, same_compound}
+use Rattle.wic_scalar.proofs.SetFacts.{insert-remove}
+use Rattle.wic_bitset.specs.Compound.{Compound}
 use Rattle.wic_bitset.proofs.callers.leave_for_a_while.Goals as goal
+
+-- two sets in words are the same where their parts are
+same_compound : (s t : Compound) → s.members ≡ t.members → s.words ≡ t.words → s ≡ t
+same_compound s t members words = λ j. record { members = members j; words = words j }
 
 -- what is said on Ok, where it is Ok
 on_ok : {T E P : Type 0} (r : Result T E) → IsOk r → OnOk r P → P

@@ -1,4 +1,4 @@
--- Finite sets of numbers: equal where they have the same members.
+-- Finite sets of numbers: equal where they have the same members; one number in or out; how many there are.
 use Rattle.std.proofs.Common.{⊎_elim, ◌≡◌, ◌≢◌, ℕ, zero, suc, ◌+◌, ◌<◌, ◌≤◌, Bool, true, false, not, ◌&&◌, length, refl, sym, ap, ◌∙◌}
 use Rattle.std.proofs.Common.{arith}
 use Rattle.std.specs.Prelude.{nat_lt}
@@ -10,7 +10,6 @@ use Rattle.std.specs.FinSet.{contains-empty}
 use Rattle.std.specs.FinSet.{contains-insert, contains-remove, len-empty, len-insert}
 use Rattle.std.proofs.lemmas.Bool.{cases_eq, cases_Bool}
 use Rattle.std.proofs.lemmas.Bool.Decides.{nat_tests}
-use Rattle.wic_bitset.specs.Compound.{Compound}
 
 -- a number that isn't there is taken out
 pub remove_absent : (s : FinSet nat_cmp) (i : ℕ) → contains s i ≡ false → remove s i ≡ s
@@ -33,10 +32,6 @@ insert_present s i present = same_set nat_cmp_total nat_cmp-IsAntisymmetric _ _ 
     (λ same. rw same (grind (members, unsigned_tied, arith, nat_tests)))
     (λ apart. grind (members, unsigned_tied, arith, nat_tests))
     (cases_eq q i))
-
--- two sets in words are the same where their parts are
-pub same_compound : (s t : Compound) → s.members ≡ t.members → s.words ≡ t.words → s ≡ t
-same_compound s t members words = λ j. record { members = members j; words = words j }
 
 -- two sets are the same where the same numbers are absent
 pub same_by_absence : (s t : FinSet nat_cmp) → ((q : ℕ) → contains s q ≡ false → contains t q ≡ false)
@@ -90,6 +85,7 @@ was_before_remove s i q has = ⊎_elim
 
 -- ---- the set of a range, and the number of members
 
+-- no number before the range is in its set
 early : (p : ℕ → Bool) (q a m : ℕ) → q < a → contains (from_list {R = nat_cmp} (filter p (range_with_len a m))) q ≡ false
 early p q a zero below = contains-empty nat_cmp q
 early p q a (suc m) below = ⊎_elim
@@ -133,6 +129,7 @@ count_in p a (suc m) = ⊎_elim
     (λ no. rw no (count_in p (a + 1) m))
     (cases_Bool (p a))
 
+-- a range has at most as many members as places
 pub at_most_in : (p : ℕ → Bool) (a m : ℕ) → length (filter p (range_with_len a m)) ≤ m
 at_most_in p a zero = omega arith
 at_most_in p a (suc m) = ⊎_elim
