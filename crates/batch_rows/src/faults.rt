@@ -1,27 +1,32 @@
 //! Reads and writes that fail, and words that ask for nothing there is.
 use crate::program::{run_program, vector_of};
-use batch_script::{Failed, MemSink, PlainSource, Sink, Source, Status};
+use batch_script::{CountSink, Failed, MemSink, PlainSource, Sink, Source, Status, top};
 use std::test::Fail;
 use wic_vec::TryVec;
 
 const SCRIPT: &[u8] = b"begin\npush 7\ncommit\n";
 
 #[test]
-fn a_failed_read_or_write_ends_the_call(rt: HostRuntime) -> Result<(), Fail> {
+fn each_failed_read_or_write_ends_the_call_and_none_comes_after_the_last(
+    rt: HostRuntime,
+) -> Result<(), Fail> {
+    let none: &[u64] = &[];
+    let read_fault = "error: read fault\n";
+    let all = "ok\ncommitted\n";
     for (reads, writes, status, held) in [
-        (
-            [].as_slice(),
-            [].as_slice(),
-            Status::Done,
-            "ok\ncommitted\n",
-        ),
-        (
-            [2].as_slice(),
-            [].as_slice(),
-            Status::ReadFault,
-            "error: read fault\n",
-        ),
-        ([].as_slice(), [2].as_slice(), Status::WriteFault, "ok\n"),
+        ([1].as_slice(), none, Status::ReadFault, read_fault),
+        ([2].as_slice(), none, Status::ReadFault, read_fault),
+        ([3].as_slice(), none, Status::ReadFault, read_fault),
+        ([4].as_slice(), none, Status::ReadFault, read_fault),
+        ([5].as_slice(), none, Status::ReadFault, read_fault),
+        ([6].as_slice(), none, Status::ReadFault, read_fault),
+        ([7].as_slice(), none, Status::Done, all),
+        (none, [1].as_slice(), Status::WriteFault, ""),
+        (none, [2].as_slice(), Status::WriteFault, "ok\n"),
+        (none, [3].as_slice(), Status::WriteFault, "ok\ncom"),
+        (none, [4].as_slice(), Status::WriteFault, "ok\ncommit"),
+        (none, [5].as_slice(), Status::WriteFault, "ok\ncommitted"),
+        (none, [6].as_slice(), Status::Done, all),
         ([1].as_slice(), [2].as_slice(), Status::WriteFault, "err"),
     ] {
         let answer = run_program(rt.alloc(), &[], SCRIPT, reads, writes)?;
@@ -36,6 +41,35 @@ fn a_failed_read_or_write_ends_the_call(rt: HostRuntime) -> Result<(), Fail> {
             "at reads {reads:?}, writes {writes:?}"
         );
     }
+    Ok(())
+}
+
+#[test]
+fn a_failed_write_of_the_usage_is_a_write_fault(rt: HostRuntime) -> Result<(), Fail> {
+    let answer = run_program(rt.alloc(), &["x"], SCRIPT, &[], &[1])?;
+    assert_eq!(rt; answer.status, Status::WriteFault);
+    assert_eq!(rt; answer.sink.bytes(), b"".as_slice());
+    Ok(())
+}
+
+#[test]
+fn a_sink_that_keeps_no_byte_counts_them(rt: HostRuntime) -> Result<(), Fail> {
+    let mut source = PlainSource::new(vector_of(rt.alloc(), SCRIPT)?);
+    let mut sink = CountSink::new();
+    let status = top(rt.alloc(), &TryVec::new(rt.alloc()), &mut source, &mut sink);
+    assert_eq!(rt; status, Status::Done);
+    assert_eq!(rt; sink.total(), 13);
+    Ok(())
+}
+
+#[test]
+fn a_sink_too_small_keeps_what_fits(rt: HostRuntime) -> Result<(), Fail> {
+    let alloc = rt.alloc();
+    let mut source = PlainSource::new(vector_of(alloc, SCRIPT)?);
+    let mut sink = MemSink::new(alloc, 5, 3, TryVec::new(alloc))?;
+    let status = top(alloc, &TryVec::new(alloc), &mut source, &mut sink);
+    assert_eq!(rt; status, Status::WriteFault);
+    assert_eq!(rt; sink.bytes(), b"ok\nco".as_slice());
     Ok(())
 }
 

@@ -1,6 +1,7 @@
 -- What a script is, what a run of it is, and the text of its replies.
 pub mod Attempt
 pub mod Device
+pub mod DeviceLaws
 pub mod Grammar
 pub mod Headline
 pub mod Kind

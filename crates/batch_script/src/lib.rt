@@ -41,7 +41,7 @@ mod runner;
 pub use device::{Failed, Sink, Source};
 pub use item::{Item, Script};
 pub use kind::BatchKind;
-pub use memory_device::{MemSink, MemSource, PlainSource};
+pub use memory_device::{CountSink, MemSink, MemSource, PlainSource};
 pub use parser::parse;
 pub use program::{Status, top};
 pub use run_error::RunError;

@@ -1,10 +1,9 @@
 //! The whole program, over any source and any sink.
 ghost use Rattle.std.specs.Prelude.{◌≡◌, ◌≢◌, ◌⊎◌, ◌+◌, ◌<◌, ◌≤◌, ◌++◌, ℕ, List, [], length, Some, IfOk, IfErr, OnOk, OnErr};
-ghost use Rattle.batch_script.specs.Attempt.{Answers, Attempts, Finishes, IsReadEnd, ReadsAll, WritesFront, WritesWhole};
-ghost use Rattle.batch_script.specs.Device.{Rose};
+ghost use Rattle.batch_script.specs.Attempt.{Answers, Concludes, Finishes, IsReadEnd, ReadsAll, WritesFront, WritesWhole};
+ghost use Rattle.batch_script.specs.Device.{AtMost, Rose};
 ghost use Rattle.batch_script.specs.Grammar.{IsScript, IsFaultLine};
 ghost use Rattle.batch_script.specs.Headline.{Premises, RunsWhole, WantsMemory, input_limit};
-ghost use Rattle.batch_script.specs.Status.{Gains, IsBeyondLimit, IsNoScript, IsWithinLimit, ReadsToEnd};
 ghost use Rattle.batch_script.specs.Machine.{Item};
 ghost use Rattle.batch_script.specs.declared.program.Status.{Status};
 
@@ -62,6 +61,7 @@ fn read_input<S: Source>(alloc: Global, source: &mut S) -> Result<TryVec<u8>, Re
     ensures bytes { IfOk result (λ bytes. ReadsAll (S.left source.old) (S.left source.new) bytes.items) }
     ensures kept { OnOk result (S.faults source.new ≡ S.faults source.old) }
     ensures end { IfErr result (IsReadEnd (S.left source.old) (S.faults source.old) (S.faults source.new)) }
+    ensures reads { AtMost (input_limit + 1) S.reaches source.old source.new }
 {
     let mut bytes = TryVec::new(alloc);
     let mut piece = [0; PIECE];
@@ -90,8 +90,8 @@ fn take_piece(bytes: &mut TryVec<u8>, piece: &[u8]) -> Result<(), ReadEnd>
 
 /// Writes a text whole, in pieces that the sink takes.
 fn write_text<K: Sink>(text: &str, sink: &mut K) -> Result<(), Failed>
-    ensures whole { OnOk result (WritesWhole text.now (K.written sink.old) (K.written sink.new) (K.faults sink.old) (K.faults sink.new)) }
-    ensures front { OnErr result (WritesFront text.now (K.written sink.old) (K.written sink.new) (K.faults sink.old) (K.faults sink.new)) }
+    ensures whole { OnOk result (WritesWhole text.now K.written K.faults K.reaches sink.old sink.new) }
+    ensures front { OnErr result (WritesFront text.now K.written K.faults K.reaches sink.old sink.new) }
 {
     let mut rest = text.as_bytes();
     while !rest.is_empty() {
@@ -103,7 +103,7 @@ fn write_text<K: Sink>(text: &str, sink: &mut K) -> Result<(), Failed>
 
 /// Writes a text and answers the status, or that a write failed.
 fn finish<K: Sink>(text: &str, status: Status, sink: &mut K) -> Status
-    ensures { Finishes text.now status result (K.written sink.old) (K.written sink.new) (K.faults sink.old) (K.faults sink.new) }
+    ensures { Finishes text.now status result K.written K.faults K.reaches sink.old sink.new }
 {
     match write_text(text, sink) {
         Ok(()) => status,
@@ -114,7 +114,7 @@ fn finish<K: Sink>(text: &str, status: Status, sink: &mut K) -> Status
 /// Runs the input and writes the replies, or why there are none.
 fn answer<K: Sink>(alloc: Global, input: &[u8], sink: &mut K) -> Status
     ensures { (status : Status) × (text : List ℕ) × Answers status input.now text
-        × Finishes text status result (K.written sink.old) (K.written sink.new) (K.faults sink.old) (K.faults sink.new) }
+        × Finishes text status result K.written K.faults K.reaches sink.old sink.new }
 {
     match run(alloc, input) {
         Ok(text) => finish(text.as_str(), Status::Done, sink),
@@ -127,7 +127,7 @@ fn answer<K: Sink>(alloc: Global, input: &[u8], sink: &mut K) -> Status
 fn answer_syntax<K: Sink>(alloc: Global, line: u64, sink: &mut K) -> Status
     ensures { (status : Status) × (text : List ℕ)
         × ((input : List ℕ) → ¬ IsScript input → IsFaultLine input line → Answers status input text)
-        × Finishes text status result (K.written sink.old) (K.written sink.new) (K.faults sink.old) (K.faults sink.new) }
+        × Finishes text status result K.written K.faults K.reaches sink.old sink.new }
 {
     match format!(in alloc; "error: syntax at line {line}\n") {
         Ok(text) => finish(text.as_str(), Status::Syntax, sink),
@@ -142,9 +142,10 @@ fn conclude<S: Source, K: Sink>(
     source: &mut S,
     sink: &mut K,
 ) -> Status
-    ensures { (status : Status) × (text : List ℕ)
-        × Attempts status words.now.items (S.left source.old) (S.left source.new) (S.faults source.old) (S.faults source.new) text
-        × Finishes text status result (K.written sink.old) (K.written sink.new) (K.faults sink.old) (K.faults sink.new) }
+    ensures concludes { Concludes result words.now.items S.left S.faults source.old source.new
+        K.written K.faults K.reaches sink.old sink.new }
+    ensures reads { AtMost (input_limit + 1) S.reaches source.old source.new }
+    ensures source_stays { words.now.items ≢ [] → source.new ≡ source.old }
 {
     if !words.is_empty() {
         return finish("usage: batch [gen SEED N]\n", Status::Usage, sink);
@@ -175,33 +176,32 @@ pub fn top<S: Source, K: Sink>(
         (S.faults source.old) (S.faults source.new) (K.faults sink.old) (K.faults sink.new) input held items
         → RunsWhole result (K.written sink.new) held items ⊎ WantsMemory result (K.written sink.new) held }
 
-    // What is written, with each status.
-    ensures gains { (held : List ℕ) → K.written sink.old ≡ Some held
-        → (gained : List ℕ) × Gains result (S.left source.old) gained × (K.written sink.new ≡ Some (held ++ gained)) }
+    // How it comes to each status, what is then written, and by how many writes.
+    ensures concludes { Concludes result words.now.items S.left S.faults source.old source.new
+        K.written K.faults K.reaches sink.old sink.new }
 
-    // When each status comes.
-    ensures done { result ≡ Status.Done → (words.now.items ≡ []) × ReadsToEnd (S.left source.old) (S.left source.new)
-        × IsWithinLimit (S.left source.old)
-        × (S.faults source.new ≡ S.faults source.old) × (K.faults sink.new ≡ K.faults sink.old) }
-    ensures syntax { result ≡ Status.Syntax → (words.now.items ≡ []) × IsNoScript (S.left source.old)
-        × (S.faults source.new ≡ S.faults source.old) × (K.faults sink.new ≡ K.faults sink.old) }
+    // How often is read.
+    ensures reads { AtMost (input_limit + 1) S.reaches source.old source.new }
+    ensures source_stays { words.now.items ≢ [] → source.new ≡ source.old }
+
+    // A fault is answered only where a count rose.
+    ensures read_fault { result ≡ Status.ReadFault → Rose (S.faults source.old) (S.faults source.new) }
+    ensures write_fault { result ≡ Status.WriteFault → Rose (K.faults sink.old) (K.faults sink.new) }
+
+    // Which status it is where no count rose, whatever the sink tells.
+    ensures script_enough { (input : List ℕ) → words.now.items ≡ [] → S.left source.old ≡ Some input
+        → length input ≤ input_limit → IsScript input
+        → ¬ Rose (S.faults source.old) (S.faults source.new) → ¬ Rose (K.faults sink.old) (K.faults sink.new)
+        → (result ≡ Status.Done) ⊎ (result ≡ Status.Oom) }
     ensures syntax_enough { (input : List ℕ) → words.now.items ≡ [] → S.left source.old ≡ Some input
         → length input ≤ input_limit → ¬ IsScript input
         → ¬ Rose (S.faults source.old) (S.faults source.new) → ¬ Rose (K.faults sink.old) (K.faults sink.new)
         → (result ≡ Status.Syntax) ⊎ (result ≡ Status.Oom) }
-    ensures oom { result ≡ Status.Oom → words.now.items ≡ [] }
-    ensures read_fault { result ≡ Status.ReadFault → (words.now.items ≡ []) × Rose (S.faults source.old) (S.faults source.new) }
-    ensures write_fault { result ≡ Status.WriteFault → Rose (K.faults sink.old) (K.faults sink.new) }
-    ensures too_long { result ≡ Status.TooLong → (words.now.items ≡ []) × IsBeyondLimit (S.left source.old)
-        × (S.faults source.new ≡ S.faults source.old) × (K.faults sink.new ≡ K.faults sink.old) }
     ensures too_long_enough { (input : List ℕ) → words.now.items ≡ [] → S.left source.old ≡ Some input
         → input_limit < length input
         → ¬ Rose (S.faults source.old) (S.faults source.new) → ¬ Rose (K.faults sink.old) (K.faults sink.new)
         → (result ≡ Status.TooLong) ⊎ (result ≡ Status.Oom) }
-    ensures usage { result ≡ Status.Usage → (words.now.items ≢ []) × (K.faults sink.new ≡ K.faults sink.old) }
     ensures usage_enough { words.now.items ≢ [] → ¬ Rose (K.faults sink.old) (K.faults sink.new) → result ≡ Status.Usage }
-    ensures usage_reads_nothing { words.now.items ≢ []
-        → (S.left source.new ≡ S.left source.old) × (S.faults source.new ≡ S.faults source.old) }
 {
     conclude(alloc, words, source, sink)
 }
