@@ -2,6 +2,7 @@
 pub mod Attempt
 pub mod Device
 pub mod DeviceLaws
+pub mod Generated
 pub mod Grammar
 pub mod Headline
 pub mod Kind
@@ -12,3 +13,4 @@ pub mod Refusal
 pub mod Reply
 pub mod RunText
 pub mod Status
+pub mod Summary
