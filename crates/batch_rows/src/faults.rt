@@ -1,4 +1,6 @@
-//! Reads and writes that fail, and words that ask for nothing there is.
+//! Reads and writes that fail.
+ghost use Rattle.std.specs.Prelude.{⊤, None};
+
 use crate::program::{run_program, vector_of};
 use batch_script::{CountSink, Failed, MemSink, PlainSource, Sink, Source, Status, top};
 use std::test::Fail;
@@ -73,16 +75,66 @@ fn a_sink_too_small_keeps_what_fits(rt: HostRuntime) -> Result<(), Fail> {
     Ok(())
 }
 
-#[test]
-fn any_word_is_answered_by_the_usage(rt: HostRuntime) -> Result<(), Fail> {
-    for words in [["gen", "1"].as_slice(), ["x"].as_slice(), [""].as_slice()] {
-        let answer = run_program(rt.alloc(), words, SCRIPT, &[], &[])?;
-        assert_eq!(rt; answer.status, Status::Usage);
-        assert_eq!(rt;
-            answer.sink.bytes(),
-            b"usage: batch [gen SEED N]\n".as_slice()
-        );
+/// A source that remembers the longest buffer that it was asked to fill, and fails where it is asked after its end.
+#[derive(Drop)]
+struct StrictSource {
+    inner: PlainSource,
+    longest: usize,
+    has_ended: bool,
+    faults: u64,
+}
+
+impl Source for StrictSource {
+    ghost left = { λ _. None };
+
+    ghost faults = { λ s. s.faults };
+
+    ghost reaches = { λ _ _ _. ⊤ };
+
+    fn read(&mut self, buf: &mut [u8]) -> Result<usize, Failed> {
+        self.longest = self.longest.max(buf.len());
+        if self.has_ended {
+            self.faults = self.faults.saturating_add(1);
+            return Err(Failed);
+        }
+        match self.inner.read(buf) {
+            Ok(count) => {
+                self.has_ended = count == 0;
+                Ok(count)
+            }
+            Err(Failed) => {
+                self.faults = self.faults.saturating_add(1);
+                Err(Failed)
+            }
+        }
     }
+
+    ghost stays = { λ _. tt };
+
+    ghost goes_on = { λ _ _ _ _ _ _ _. tt };
+}
+
+#[test]
+fn reads_ask_for_4096_bytes_and_end_at_the_end(rt: HostRuntime) -> Result<(), Fail> {
+    let alloc = rt.alloc();
+    let mut source = StrictSource {
+        inner: PlainSource::new(vector_of(alloc, SCRIPT)?),
+        longest: 0,
+        has_ended: false,
+        faults: 0,
+    };
+    let mut sink = CountSink::new();
+    let status = top(alloc, &TryVec::new(alloc), &mut source, &mut sink);
+    assert_eq!(rt; status, Status::Done);
+    assert_eq!(rt; source.longest, 4096);
+    assert!(rt; source.has_ended);
+    Ok(())
+}
+
+#[test]
+fn no_text_makes_no_write(rt: HostRuntime) -> Result<(), Fail> {
+    let answer = run_program(rt.alloc(), &[], b"", &[], &[1])?;
+    assert_eq!(rt; answer.status, Status::Done);
     Ok(())
 }
 

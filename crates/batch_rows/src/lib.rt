@@ -11,3 +11,5 @@ mod guard;
 mod program;
 #[cfg(test)]
 mod scripts;
+#[cfg(test)]
+mod words;

@@ -1,10 +1,13 @@
 -- How the program comes to its status: what was to be written and why, and how the writing ended.
-use Rattle.std.specs.Prelude.{◌≡◌, ◌≢◌, ◌⊎◌, ℕ, ◌≤◌, List, [], ◌++◌, length, Option, Some}
+use Rattle.std.specs.Prelude.{◌≡◌, ◌≢◌, ◌⊎◌, ℕ, ◌≤◌, List, [], ◌++◌, length, Option, Some, None}
 use Rattle.wic_vec.specs.TryString.{TryString}
 use Rattle.batch_script.specs.Device.{AtMost, Rose}
 use Rattle.batch_script.specs.Grammar.{IsScript}
+use Rattle.batch_script.specs.Generated.{generated}
 use Rattle.batch_script.specs.Headline.{input_limit}
 use Rattle.batch_script.specs.Status.{Tells, ReadsToEnd, IsNoScript, IsBeyondLimit, IsWithinLimit}
+use Rattle.batch_script.specs.Summary.{summary_text}
+use Rattle.batch_script.specs.Words.{AsksForScript, AsksForRun, AsksForUsage}
 use Rattle.batch_script.specs.declared.program.Status.{Status}
 use Rattle.batch_script.specs.declared.program.Status.TheVariants.{Done, Syntax, Oom, ReadFault, WriteFault, TooLong, Usage}
 use Rattle.batch_script.specs.declared.program.ReadEnd.{ReadEnd}
@@ -56,16 +59,38 @@ Answers WriteFault input text = ⊥
 Answers TooLong input text = ⊥
 Answers Usage input text = ⊥
 
+-- Why a text is to be written with a status, by the numbers that a script is generated from.
+abbrev pub AnswersRun : Status → ℕ → ℕ → List ℕ → Type 0
+AnswersRun Done seed count text = text ≡ summary_text (generated seed count)
+AnswersRun Oom seed count text = Tells Oom None text
+AnswersRun status seed count text = ⊥
+
+-- a script is asked for, it was read to its end, and the text is that of one run of it
+pub record CallsForReplies (words : List TryString) (left left_after : Option (List ℕ)) (text : List ℕ) : Type 0 where
+  pub asks : AsksForScript words
+  pub ended : ReadsToEnd left left_after
+  pub within : IsWithinLimit left
+  pub tells : Tells Done left text
+
+-- a generated run is asked for, and the text is its summary
+pub record CallsForSummary (words : List TryString) (text : List ℕ) : Type 0 where
+  pub seed : ℕ
+  pub count : ℕ
+  pub asks : AsksForRun words seed count
+  pub tells : text ≡ summary_text (generated seed count)
+
 -- What words, input and the source's count of faults call for: the status, and the text that is to be written with it.
 abbrev pub CallsFor : Status → List TryString → Option (List ℕ) → Option (List ℕ) → ℕ → ℕ → List ℕ → Type 0
 CallsFor Done words left left_after before after text =
-    (words ≡ []) × (after ≡ before) × ReadsToEnd left left_after × IsWithinLimit left × Tells Done left text
-CallsFor Syntax words left left_after before after text = (words ≡ []) × (after ≡ before) × IsNoScript left × Tells Syntax left text
-CallsFor Oom words left left_after before after text = (words ≡ []) × (after ≡ before) × Tells Oom left text
-CallsFor ReadFault words left left_after before after text = (words ≡ []) × Rose before after × Tells ReadFault left text
+    (after ≡ before) × (CallsForReplies words left left_after text ⊎ CallsForSummary words text)
+CallsFor Syntax words left left_after before after text =
+    AsksForScript words × (after ≡ before) × IsNoScript left × Tells Syntax left text
+CallsFor Oom words left left_after before after text = (¬ AsksForUsage words) × (after ≡ before) × Tells Oom left text
+CallsFor ReadFault words left left_after before after text = AsksForScript words × Rose before after × Tells ReadFault left text
 CallsFor WriteFault words left left_after before after text = ⊥
-CallsFor TooLong words left left_after before after text = (words ≡ []) × (after ≡ before) × IsBeyondLimit left × Tells TooLong left text
-CallsFor Usage words left left_after before after text = (words ≢ []) × Tells Usage left text
+CallsFor TooLong words left left_after before after text =
+    AsksForScript words × (after ≡ before) × IsBeyondLimit left × Tells TooLong left text
+CallsFor Usage words left left_after before after text = AsksForUsage words × (after ≡ before) × Tells Usage left text
 
 -- How a call of the program came to its status, by words, source and sink: where several answers might come, it says which.
 pub record Concludes {S K : Type 0} (result : Status) (words : List TryString)
@@ -77,3 +102,10 @@ pub record Concludes {S K : Type 0} (result : Status) (words : List TryString)
   pub called_for : CallsFor status words (left source) (left source_after) (source_faults source) (source_faults source_after) text
   -- the text was written whole, and the answer is that status; or a write failed, whatever that status is
   pub finished : Finishes text status result written sink_faults reaches sink sink_after
+
+-- the summary of the script that is generated from these numbers, whole
+pub record SummarizesRun (status : Status) (written : Option (List ℕ)) (held : List ℕ) (seed count : ℕ) : Type 0 where
+  -- the status is 0
+  pub done : status ≡ Done
+  -- the sink holds what it held, followed by the seven lines and nothing else
+  pub gained : written ≡ Some (held ++ summary_text (generated seed count))

@@ -14,3 +14,4 @@ pub mod Reply
 pub mod RunText
 pub mod Status
 pub mod Summary
+pub mod Words

@@ -28,6 +28,7 @@
 //! script.
 #![tactic(auto)]
 
+mod callers;
 mod device;
 mod generator;
 mod item;
@@ -40,6 +41,7 @@ mod reply;
 mod run_error;
 mod runner;
 mod summarizer;
+mod words;
 
 pub use device::{Failed, Sink, Source};
 pub use generator::generate;

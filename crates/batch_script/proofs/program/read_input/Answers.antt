@@ -1,4 +1,4 @@
-use Rattle.std.proofs.Common.{◌≡◌, ◌+◌, ◌<◌, ◌∙◌, ◌++◌, ap, drop, length, take, min, Some, arith}
+use Rattle.std.proofs.Common.{◌≡◌, ◌<◌, ◌∙◌, ◌++◌, ap, drop, length, take, min, Some, arith}
 use Rattle.std.proofs.lemmas.List.{length-append, length-take}
 use Rattle.batch_script.proofs.Pieces.{and_one, read-more, read-all}
 use Rattle.batch_script.proofs.program.read_input.Goals as goal

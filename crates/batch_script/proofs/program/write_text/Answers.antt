@@ -1,4 +1,4 @@
-use Rattle.std.proofs.Common.{◌∙◌, ◌+◌, ◌++◌, ap, arith, length, min, take, Some, subst, append_assoc}
+use Rattle.std.proofs.Common.{◌∙◌, ◌++◌, ap, arith, length, min, take, Some, subst, append_assoc}
 use Rattle.std.proofs.lemmas.Bool.Decides.{nat_tests}
 use Rattle.batch_script.specs.Device.{Rose}
 use Rattle.std.proofs.lemmas.List.{length-append, length-take}

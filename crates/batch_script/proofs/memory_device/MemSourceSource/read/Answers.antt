@@ -1,4 +1,4 @@
-use Rattle.std.proofs.Common.{◌∙◌, ap, subst, sym, arith, min}
+use Rattle.std.proofs.Common.{◌∙◌, ap, subst, arith, min}
 use Rattle.batch_script.specs.MemoryDevice.{Gave}
 use Rattle.batch_script.proofs.DeviceFacts.{front_gave}
 use Rattle.batch_script.proofs.memory_device.MemSourceSource.read.Goals as goal
