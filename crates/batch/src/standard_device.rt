@@ -1,5 +1,5 @@
 //! Standard input and output as source and sink. Nothing is told of the bytes.
-ghost use Rattle.std.specs.Prelude.{◌≡◌, ◌<◌, ◌≤◌, length, None, IfSome};
+ghost use Rattle.std.specs.Prelude.{⊤, ◌≡◌, ◌<◌, ◌≤◌, length, None, IfSome};
 
 use batch_script::{Failed, Sink, Source};
 use std::io::{Read, Stdin, Stdout, Write};
@@ -22,6 +22,8 @@ impl Source for StdSource {
 
     ghost faults = { λ s. s.faults };
 
+    ghost reaches = { λ _ _ _. ⊤ };
+
     fn read(&mut self, buf: &mut [u8]) -> Result<usize, Failed> {
         match self.input.read(buf) {
             Ok(count) => Ok(count),
@@ -31,6 +33,10 @@ impl Source for StdSource {
             }
         }
     }
+
+    ghost stays = { λ _. tt };
+
+    ghost goes_on = { λ _ _ _ _ _ _ _. tt };
 }
 
 /// Standard output. It counts the writes that fail: an error of a write or of a flush, and a write that takes nothing
@@ -63,6 +69,8 @@ impl Sink for StdSink {
 
     ghost faults = { λ s. s.faults };
 
+    ghost reaches = { λ _ _ _. ⊤ };
+
     fn write(&mut self, piece: &[u8]) -> Result<usize, Failed> {
         match self.put(piece) {
             Some(count) => Ok(count),
@@ -72,4 +80,8 @@ impl Sink for StdSink {
             }
         }
     }
+
+    ghost stays = { λ _. tt };
+
+    ghost goes_on = { λ _ _ _ _ _ _ _. tt };
 }

@@ -1,27 +1,34 @@
-//! Reads and writes that fail, and words that ask for nothing there is.
+//! Reads and writes that fail.
+ghost use Rattle.std.specs.Prelude.{⊤, None};
+
 use crate::program::{run_program, vector_of};
-use batch_script::{Failed, MemSink, PlainSource, Sink, Source, Status};
+use batch_script::{CountSink, Failed, MemSink, PlainSource, Sink, Source, Status, top};
 use std::test::Fail;
 use wic_vec::TryVec;
 
 const SCRIPT: &[u8] = b"begin\npush 7\ncommit\n";
 
 #[test]
-fn a_failed_read_or_write_ends_the_call(rt: HostRuntime) -> Result<(), Fail> {
+fn each_failed_read_or_write_ends_the_call_and_none_comes_after_the_last(
+    rt: HostRuntime,
+) -> Result<(), Fail> {
+    let none: &[u64] = &[];
+    let read_fault = "error: read fault\n";
+    let all = "ok\ncommitted\n";
     for (reads, writes, status, held) in [
-        (
-            [].as_slice(),
-            [].as_slice(),
-            Status::Done,
-            "ok\ncommitted\n",
-        ),
-        (
-            [2].as_slice(),
-            [].as_slice(),
-            Status::ReadFault,
-            "error: read fault\n",
-        ),
-        ([].as_slice(), [2].as_slice(), Status::WriteFault, "ok\n"),
+        ([1].as_slice(), none, Status::ReadFault, read_fault),
+        ([2].as_slice(), none, Status::ReadFault, read_fault),
+        ([3].as_slice(), none, Status::ReadFault, read_fault),
+        ([4].as_slice(), none, Status::ReadFault, read_fault),
+        ([5].as_slice(), none, Status::ReadFault, read_fault),
+        ([6].as_slice(), none, Status::ReadFault, read_fault),
+        ([7].as_slice(), none, Status::Done, all),
+        (none, [1].as_slice(), Status::WriteFault, ""),
+        (none, [2].as_slice(), Status::WriteFault, "ok\n"),
+        (none, [3].as_slice(), Status::WriteFault, "ok\ncom"),
+        (none, [4].as_slice(), Status::WriteFault, "ok\ncommit"),
+        (none, [5].as_slice(), Status::WriteFault, "ok\ncommitted"),
+        (none, [6].as_slice(), Status::Done, all),
         ([1].as_slice(), [2].as_slice(), Status::WriteFault, "err"),
     ] {
         let answer = run_program(rt.alloc(), &[], SCRIPT, reads, writes)?;
@@ -40,15 +47,94 @@ fn a_failed_read_or_write_ends_the_call(rt: HostRuntime) -> Result<(), Fail> {
 }
 
 #[test]
-fn any_word_is_answered_by_the_usage(rt: HostRuntime) -> Result<(), Fail> {
-    for words in [["gen", "1"].as_slice(), ["x"].as_slice(), [""].as_slice()] {
-        let answer = run_program(rt.alloc(), words, SCRIPT, &[], &[])?;
-        assert_eq!(rt; answer.status, Status::Usage);
-        assert_eq!(rt;
-            answer.sink.bytes(),
-            b"usage: batch [gen SEED N]\n".as_slice()
-        );
+fn a_failed_write_of_the_usage_is_a_write_fault(rt: HostRuntime) -> Result<(), Fail> {
+    let answer = run_program(rt.alloc(), &["x"], SCRIPT, &[], &[1])?;
+    assert_eq!(rt; answer.status, Status::WriteFault);
+    assert_eq!(rt; answer.sink.bytes(), b"".as_slice());
+    Ok(())
+}
+
+#[test]
+fn a_sink_that_keeps_no_byte_counts_them(rt: HostRuntime) -> Result<(), Fail> {
+    let mut source = PlainSource::new(vector_of(rt.alloc(), SCRIPT)?);
+    let mut sink = CountSink::new();
+    let status = top(rt.alloc(), &TryVec::new(rt.alloc()), &mut source, &mut sink);
+    assert_eq!(rt; status, Status::Done);
+    assert_eq!(rt; sink.total(), 13);
+    Ok(())
+}
+
+#[test]
+fn a_sink_too_small_keeps_what_fits(rt: HostRuntime) -> Result<(), Fail> {
+    let alloc = rt.alloc();
+    let mut source = PlainSource::new(vector_of(alloc, SCRIPT)?);
+    let mut sink = MemSink::new(alloc, 5, 3, TryVec::new(alloc))?;
+    let status = top(alloc, &TryVec::new(alloc), &mut source, &mut sink);
+    assert_eq!(rt; status, Status::WriteFault);
+    assert_eq!(rt; sink.bytes(), b"ok\nco".as_slice());
+    Ok(())
+}
+
+/// A source that remembers the longest buffer that it was asked to fill, and fails where it is asked after its end.
+#[derive(Drop)]
+struct StrictSource {
+    inner: PlainSource,
+    longest: usize,
+    has_ended: bool,
+    faults: u64,
+}
+
+impl Source for StrictSource {
+    ghost left = { λ _. None };
+
+    ghost faults = { λ s. s.faults };
+
+    ghost reaches = { λ _ _ _. ⊤ };
+
+    fn read(&mut self, buf: &mut [u8]) -> Result<usize, Failed> {
+        self.longest = self.longest.max(buf.len());
+        if self.has_ended {
+            self.faults = self.faults.saturating_add(1);
+            return Err(Failed);
+        }
+        match self.inner.read(buf) {
+            Ok(count) => {
+                self.has_ended = count == 0;
+                Ok(count)
+            }
+            Err(Failed) => {
+                self.faults = self.faults.saturating_add(1);
+                Err(Failed)
+            }
+        }
     }
+
+    ghost stays = { λ _. tt };
+
+    ghost goes_on = { λ _ _ _ _ _ _ _. tt };
+}
+
+#[test]
+fn reads_ask_for_4096_bytes_and_end_at_the_end(rt: HostRuntime) -> Result<(), Fail> {
+    let alloc = rt.alloc();
+    let mut source = StrictSource {
+        inner: PlainSource::new(vector_of(alloc, SCRIPT)?),
+        longest: 0,
+        has_ended: false,
+        faults: 0,
+    };
+    let mut sink = CountSink::new();
+    let status = top(alloc, &TryVec::new(alloc), &mut source, &mut sink);
+    assert_eq!(rt; status, Status::Done);
+    assert_eq!(rt; source.longest, 4096);
+    assert!(rt; source.has_ended);
+    Ok(())
+}
+
+#[test]
+fn no_text_makes_no_write(rt: HostRuntime) -> Result<(), Fail> {
+    let answer = run_program(rt.alloc(), &[], b"", &[], &[1])?;
+    assert_eq!(rt; answer.status, Status::Done);
     Ok(())
 }
 

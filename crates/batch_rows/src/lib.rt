@@ -4,8 +4,12 @@
 #[cfg(test)]
 mod faults;
 #[cfg(test)]
+mod generated;
+#[cfg(test)]
 mod guard;
 #[cfg(test)]
 mod program;
 #[cfg(test)]
 mod scripts;
+#[cfg(test)]
+mod words;

@@ -1,45 +1,51 @@
 -- What follows from how the program came to its status.
-use Rattle.std.proofs.Common.{◌≡◌, ◌⊎◌, ◌≤◌, ℕ, List, [], ◌++◌, length, sym, ap, ◌∙◌, subst, inl, inr, arith, Option, Some}
+use Rattle.std.proofs.Common.{◌≡◌, ◌⊎◌, ◌≤◌, ℕ, List, [], ◌++◌, length, map, refl, sym, ap, ◌∙◌, subst, inl, inr, arith, Option, Some}
 use Rattle.wic_vec.specs.TryString.{TryString}
 use Rattle.batch_core.specs.State.{empty_state}
-use Rattle.batch_script.specs.Attempt.{Answers, Attempts, Finishes, ReadsAll}
+use Rattle.batch_script.specs.Attempt.{Answers, CallsFor, CallsForReplies, CallsForSummary, Concludes, Finishes}
+use Rattle.batch_script.specs.Attempt.{ReadsAll, SummarizesRun}
+use Rattle.batch_script.specs.Device.{Rose}
+use Rattle.batch_script.specs.Generated.{generated}
 use Rattle.batch_script.specs.Grammar.{IsScript, IsScriptOf}
 use Rattle.batch_script.specs.RunText.{IsRunText}
 use Rattle.batch_script.specs.Headline.{Premises, RunsWhole, WantsMemory, input_limit}
-use Rattle.batch_script.specs.Status.{IsNoScript}
 use Rattle.batch_script.specs.Machine.{Item, Run}
+use Rattle.batch_script.specs.Summary.{summary_text}
+use Rattle.batch_script.specs.Words.{AsksForRun}
 use Rattle.batch_script.specs.declared.program.Status.{Status}
 use Rattle.batch_script.specs.declared.program.Status.TheVariants.{Done, Syntax, Oom, ReadFault, WriteFault, TooLong, Usage}
 use Rattle.batch_script.proofs.ScriptFacts.{one_script}
+use Rattle.batch_script.proofs.WordFacts.{one_run}
 
 pub some_told : (bytes input : List ℕ) → Some bytes ≡ Some input → bytes ≡ input
 some_told bytes input same = cc
 
--- an answer to all that was read is one to what the source held
-pub attempt_from_answer : (status : Status) (words : List TryString) (left left_after : Option (List ℕ)) (before after : ℕ)
-    (bytes text : List ℕ) → words ≡ [] → ReadsAll left left_after bytes → after ≡ before → Answers status bytes text
-    → Attempts status words left left_after before after text
-attempt_from_answer Done words left left_after before after bytes text none reads kept answers = (
-  none,
-  reads.ended,
-  (λ input told. subst (λ held. length held ≤ input_limit) (reads.all input told) reads.within),
+-- an answer to all that was read is what an input calls for that the source held
+pub called_from_answer : (status : Status) (left left_after : Option (List ℕ)) (before after : ℕ) (bytes text : List ℕ)
+    → ReadsAll left left_after bytes → after ≡ before → Answers status bytes text → CallsFor status [] left left_after before after text
+called_from_answer Done left left_after before after bytes text reads kept answers = (
   kept,
-  λ input told. answers input (ap Some (reads.all input told)),
+  inl (record {
+    asks = refl;
+    ended = reads.ended;
+    within = λ input told. subst (λ held. length held ≤ input_limit) (reads.all input told) reads.within;
+    tells = λ input told. answers input (ap Some (reads.all input told));
+  }),
 )
-attempt_from_answer Syntax words left left_after before after bytes text none reads kept answers = (
-  none,
+called_from_answer Syntax left left_after before after bytes text reads kept answers = (
+  refl,
+  kept,
   (λ input told. (
     subst (λ held. length held ≤ input_limit) (reads.all input told) reads.within,
     subst (λ held. IsScript held → ⊥) (reads.all input told) answers.0,
   )),
-  kept,
   (answers.1.0, answers.1.1, λ input told. answers.1.2 input (ap Some (reads.all input told))),
 )
-attempt_from_answer Oom words left left_after before after bytes text none reads kept answers = (none, answers)
-attempt_from_answer ReadFault words left left_after before after bytes text none reads kept answers = absurd answers
-attempt_from_answer WriteFault words left left_after before after bytes text none reads kept answers = absurd answers
-attempt_from_answer TooLong words left left_after before after bytes text none reads kept answers = absurd answers
-attempt_from_answer Usage words left left_after before after bytes text none reads kept answers = absurd answers
+called_from_answer Oom left left_after before after bytes text reads kept answers = ((λ asks. asks.0 refl), kept, answers)
+called_from_answer ReadFault left left_after before after bytes text reads kept answers = absurd answers
+called_from_answer WriteFault left left_after before after bytes text reads kept answers = absurd answers
+called_from_answer TooLong left left_after before after bytes text reads kept answers = absurd answers
+called_from_answer Usage left left_after before after bytes text reads kept answers = absurd answers
 
 -- the text of one run of the items
 runs : (status result : Status) (written_after : Option (List ℕ)) (input held text : List ℕ) (items : List Item) → result ≡ Done
@@ -53,69 +59,122 @@ runs status result written_after input held text items is text_of_run script gai
       gained = gained ∙ ap (λ bytes. Some (held ++ bytes)) text_of_run.2.2;
     }
 
--- the headline
-pub headline_lem : (status result : Status) (words : List TryString) (left left_after written written_after : Option (List ℕ))
-    (source_before source_after sink_before sink_after : ℕ) (text : List ℕ)
-    → Attempts status words left left_after source_before source_after text
-    → Finishes text status result written written_after sink_before sink_after → (input held : List ℕ) (items : List Item)
-    → Premises words left written source_before source_after sink_before sink_after input held items
-    → RunsWhole result written_after held items ⊎ WantsMemory result written_after held
-headline_lem status result words left left_after written written_after source_before source_after sink_before sink_after text attempts
+-- words that say numbers are some
+some_words : (words : List TryString) (seed count : ℕ) → words ≡ [] → AsksForRun words seed count → ⊥
+some_words words seed count none asks =
+    let said = subst (λ (given : List TryString). AsksForRun given seed count) none asks in
+    let long = ap length said.said in omega arith
+
+-- where there are no words the text that goes with status 0 is that of a run
+pub replies_called : (words : List TryString) (left left_after : Option (List ℕ)) (text : List ℕ)
+    → CallsForReplies words left left_after text ⊎ CallsForSummary words text → words ≡ []
+    → (input : List ℕ) → left ≡ Some input → IsRunText input text
+replies_called words left left_after text (inl replies) none input told = replies.tells input told
+replies_called words left left_after text (inr asked) none input told =
+    absurd (some_words words asked.seed asked.count none asked.asks)
+
+-- where they say numbers it is the summary of their script
+summary_called : (words : List TryString) (left left_after : Option (List ℕ)) (text : List ℕ) (seed count : ℕ)
+    → CallsForReplies words left left_after text ⊎ CallsForSummary words text → AsksForRun words seed count
+    → text ≡ summary_text (generated seed count)
+summary_called words left left_after text seed count (inl replies) asks = absurd (some_words words seed count replies.asks asks)
+summary_called words left left_after text seed count (inr asked) asks =
+    let same = one_run (map (λ word. word.bytes) words) asked.seed asked.count seed count asked.asks asks in
+    asked.tells ∙ (ap (λ from. summary_text (generated from asked.count)) same.0
+    ∙ ap (λ many. summary_text (generated seed many)) same.1)
+
+-- what the premises of the headline leave of the statuses that are called for
+headline_by : {K : Type 0} (status result : Status) (words : List TryString) (left left_after : Option (List ℕ))
+    (source_before source_after : ℕ) (written : K → Option (List ℕ)) (faults : K → ℕ) (reaches : ℕ → K → K → Type 0) (sink sink_after : K)
+    (text : List ℕ) → CallsFor status words left left_after source_before source_after text
+    → Finishes text status result written faults reaches sink sink_after → (input held : List ℕ) (items : List Item)
+    → Premises words left (written sink) source_before source_after (faults sink) (faults sink_after) input held items
+    → RunsWhole result (written sink_after) held items ⊎ WantsMemory result (written sink_after) held
+headline_by status result words left left_after source_before source_after written faults reaches sink sink_after text called
     (inr failed) input held items premises =
     absurd (premises.sink_quiet failed.1.rose)
-headline_lem Done result words left left_after written written_after source_before source_after sink_before sink_after text attempts
+headline_by Done result words left left_after source_before source_after written faults reaches sink sink_after text called
     (inl wrote) input held items premises =
-    inl (runs Done result written_after input held text items wrote.0 (attempts.4 input premises.source_tells) premises.script
+    inl (runs Done result (written sink_after) input held text items wrote.0
+    (replies_called words left left_after text called.1 premises.no_words input premises.source_tells) premises.script
     (wrote.1.gained held premises.sink_tells))
-headline_lem Syntax result words left left_after written written_after source_before source_after sink_before sink_after text attempts
+headline_by Syntax result words left left_after source_before source_after written faults reaches sink sink_after text called
     (inl wrote) input held items premises =
-    absurd ((attempts.1 input premises.source_tells).1 (items, premises.script))
-headline_lem Oom result words left left_after written written_after source_before source_after sink_before sink_after text attempts
+    absurd ((called.2 input premises.source_tells).1 (items, premises.script))
+headline_by Oom result words left left_after source_before source_after written faults reaches sink sink_after text called
     (inl wrote) input held items premises =
     inr (record {
       wanted = wrote.0;
-      gained = wrote.1.gained held premises.sink_tells ∙ ap (λ bytes. Some (held ++ bytes)) attempts.1;
+      gained = wrote.1.gained held premises.sink_tells ∙ ap (λ bytes. Some (held ++ bytes)) called.2;
     })
-headline_lem ReadFault result words left left_after written written_after source_before source_after sink_before sink_after text attempts
+headline_by ReadFault result words left left_after source_before source_after written faults reaches sink sink_after text called
     (inl wrote) input held items premises =
-    absurd (premises.source_quiet attempts.1)
-headline_lem WriteFault result words left left_after written written_after source_before source_after sink_before sink_after text
-    attempts (inl wrote) input held items premises =
-    absurd attempts
-headline_lem TooLong result words left left_after written written_after source_before source_after sink_before sink_after text attempts
+    absurd (premises.source_quiet called.1)
+headline_by WriteFault result words left left_after source_before source_after written faults reaches sink sink_after text called
     (inl wrote) input held items premises =
-    absurd (let beyond = attempts.1 input premises.source_tells in omega arith)
-headline_lem Usage result words left left_after written written_after source_before source_after sink_before sink_after text attempts
+    absurd called
+headline_by TooLong result words left left_after source_before source_after written faults reaches sink sink_after text called
     (inl wrote) input held items premises =
-    absurd (attempts.0 premises.no_words)
+    absurd (let beyond = called.2 input premises.source_tells in omega arith)
+headline_by Usage result words left left_after source_before source_after written faults reaches sink sink_after text called
+    (inl wrote) input held items premises =
+    absurd (called.0.0 premises.no_words)
 
--- the status of a fault of the script
-pub syntax_lem : (status result : Status) (words : List TryString) (left left_after written written_after : Option (List ℕ))
-    (source_before source_after sink_before sink_after : ℕ) (text : List ℕ)
-    → Attempts status words left left_after source_before source_after text
-    → Finishes text status result written written_after sink_before sink_after → result ≡ Syntax
-    → (words ≡ []) × IsNoScript left × (source_after ≡ source_before) × (sink_after ≡ sink_before)
-syntax_lem status result words left left_after written written_after source_before source_after sink_before sink_after text attempts
-    (inr failed) is =
-    absurd (let other = sym failed.0 ∙ is in cc)
-syntax_lem Done result words left left_after written written_after source_before source_after sink_before sink_after text attempts
-    (inl wrote) is =
-    absurd (let other = sym wrote.0 ∙ is in cc)
-syntax_lem Syntax result words left left_after written written_after source_before source_after sink_before sink_after text attempts
-    (inl wrote) is =
-    (attempts.0, attempts.1, attempts.2, wrote.1.kept)
-syntax_lem Oom result words left left_after written written_after source_before source_after sink_before sink_after text attempts
-    (inl wrote) is =
-    absurd (let other = sym wrote.0 ∙ is in cc)
-syntax_lem ReadFault result words left left_after written written_after source_before source_after sink_before sink_after text attempts
-    (inl wrote) is =
-    absurd (let other = sym wrote.0 ∙ is in cc)
-syntax_lem WriteFault result words left left_after written written_after source_before source_after sink_before sink_after text attempts
-    (inl wrote) is =
-    absurd attempts
-syntax_lem TooLong result words left left_after written written_after source_before source_after sink_before sink_after text attempts
-    (inl wrote) is =
-    absurd (let other = sym wrote.0 ∙ is in cc)
-syntax_lem Usage result words left left_after written written_after source_before source_after sink_before sink_after text attempts
-    (inl wrote) is =
-    absurd (let other = sym wrote.0 ∙ is in cc)
+-- the headline, by how the call came to its status
+pub headline_lem : {S K : Type 0} (result : Status) (words : List TryString) (left : S → Option (List ℕ)) (source_faults : S → ℕ)
+    (source source_after : S) (written : K → Option (List ℕ)) (sink_faults : K → ℕ) (reaches : ℕ → K → K → Type 0) (sink sink_after : K)
+    → Concludes result words left source_faults source source_after written sink_faults reaches sink sink_after
+    → (input held : List ℕ) (items : List Item)
+    → Premises words (left source) (written sink) (source_faults source) (source_faults source_after) (sink_faults sink)
+    (sink_faults sink_after) input held items
+    → RunsWhole result (written sink_after) held items ⊎ WantsMemory result (written sink_after) held
+headline_lem result words left source_faults source source_after written sink_faults reaches sink sink_after concludes =
+    headline_by concludes.status result words (left source) (left source_after) (source_faults source) (source_faults source_after)
+    written sink_faults reaches sink sink_after concludes.text concludes.called_for concludes.finished
+
+-- what words that say two numbers leave of the statuses that are called for
+summary_by : {K : Type 0} (status result : Status) (words : List TryString) (left left_after : Option (List ℕ))
+    (source_before source_after : ℕ) (written : K → Option (List ℕ)) (faults : K → ℕ) (reaches : ℕ → K → K → Type 0) (sink sink_after : K)
+    (text : List ℕ) → CallsFor status words left left_after source_before source_after text
+    → Finishes text status result written faults reaches sink sink_after → (seed count : ℕ) (held : List ℕ)
+    → AsksForRun words seed count → written sink ≡ Some held → ¬ Rose (faults sink) (faults sink_after)
+    → SummarizesRun result (written sink_after) held seed count ⊎ WantsMemory result (written sink_after) held
+summary_by status result words left left_after source_before source_after written faults reaches sink sink_after text called
+    (inr failed) seed count held asks told quiet =
+    absurd (quiet failed.1.rose)
+summary_by Done result words left left_after source_before source_after written faults reaches sink sink_after text called
+    (inl wrote) seed count held asks told quiet =
+    inl (record {
+      done = wrote.0;
+      gained = wrote.1.gained held told
+          ∙ ap (λ bytes. Some (held ++ bytes)) (summary_called words left left_after text seed count called.1 asks);
+    })
+summary_by Syntax result words left left_after source_before source_after written faults reaches sink sink_after text called
+    (inl wrote) seed count held asks told quiet =
+    absurd (some_words words seed count called.0 asks)
+summary_by Oom result words left left_after source_before source_after written faults reaches sink sink_after text called
+    (inl wrote) seed count held asks told quiet =
+    inr (record { wanted = wrote.0; gained = wrote.1.gained held told ∙ ap (λ bytes. Some (held ++ bytes)) called.2 })
+summary_by ReadFault result words left left_after source_before source_after written faults reaches sink sink_after text called
+    (inl wrote) seed count held asks told quiet =
+    absurd (some_words words seed count called.0 asks)
+summary_by WriteFault result words left left_after source_before source_after written faults reaches sink sink_after text called
+    (inl wrote) seed count held asks told quiet =
+    absurd called
+summary_by TooLong result words left left_after source_before source_after written faults reaches sink sink_after text called
+    (inl wrote) seed count held asks told quiet =
+    absurd (some_words words seed count called.0 asks)
+summary_by Usage result words left left_after source_before source_after written faults reaches sink sink_after text called
+    (inl wrote) seed count held asks told quiet =
+    absurd (called.0.1 seed count asks)
+
+-- the summary, by how the call came to its status
+pub summary_lem : {S K : Type 0} (result : Status) (words : List TryString) (left : S → Option (List ℕ)) (source_faults : S → ℕ)
+    (source source_after : S) (written : K → Option (List ℕ)) (sink_faults : K → ℕ) (reaches : ℕ → K → K → Type 0) (sink sink_after : K)
+    → Concludes result words left source_faults source source_after written sink_faults reaches sink sink_after
+    → (seed count : ℕ) (held : List ℕ) → AsksForRun words seed count → written sink ≡ Some held
+    → ¬ Rose (sink_faults sink) (sink_faults sink_after)
+    → SummarizesRun result (written sink_after) held seed count ⊎ WantsMemory result (written sink_after) held
+summary_lem result words left source_faults source source_after written sink_faults reaches sink sink_after concludes =
+    summary_by concludes.status result words (left source) (left source_after) (source_faults source) (source_faults source_after)
+    written sink_faults reaches sink sink_after concludes.text concludes.called_for concludes.finished

@@ -3,9 +3,10 @@ use Rattle.std.proofs.Common.{◌≡◌, List, [], ◌∷◌, refl, inr}
 use Rattle.std.specs.Prelude.{codes}
 use Rattle.std.specs.Fmt.{digits}
 use Rattle.batch_core.specs.State.{empty_state}
-use Rattle.batch_core.specs.declared.command.Command.TheVariants.{Push, Pop, Set, Insert, Truncate}
+use Rattle.batch_core.specs.declared.command.Command.TheVariants.{Push, Pop, Set, Insert, Remove, Truncate}
 use Rattle.batch_core.specs.declared.command.End.TheVariants.{Commit, Abort}
 use Rattle.batch_script.specs.Machine.{Item, Run, reserve, show, batch, no_memory, plain_step}
+use Rattle.batch_script.specs.Generated.{draw, command_of, generated}
 use Rattle.batch_script.specs.Grammar.{Line, command_line, lines_of, all_lines}
 use Rattle.batch_script.specs.Reply.{reply_lines}
 
@@ -64,3 +65,13 @@ greatest_room = refl
 -- a batch that doesn't fit the room may be refused for memory: with no room any but the empty one
 refused_for_memory : Run empty_state (batch (Push 7 ∷ []) Commit ∷ []) (no_memory ∷ [])
 refused_for_memory = (empty_state, inr ((λ fits. elim (fits.few) [ ]), refl, refl), tt)
+
+-- what is made of the seed 0: a script with no batches, the first draw, and the first command
+no_batches : generated 0 0 ≡ reserve 4096 ∷ []
+no_batches = refl
+
+first_draw : draw 0 0 ≡ 167951807
+first_draw = refl
+
+first_command : command_of 0 ≡ Remove 1800
+first_command = refl

@@ -1,5 +1,6 @@
 -- What the calls of a source and of a sink do.
-use Rattle.std.specs.Prelude.{◌≡◌, ℕ, ◌+◌, ◌-◌, ◌^◌, ◌<◌, ◌≤◌, min, List, [], length, take, drop, Option, Some, Result, OnOk, OnErr}
+use Rattle.std.specs.Prelude.{◌≡◌, ℕ, ◌+◌, ◌-◌, ◌^◌, ◌<◌, ◌≤◌, min, List, [], length, take, drop, Option, Some}
+use Rattle.std.specs.Prelude.{Result, Ok, Err, OnOk, OnErr}
 use Rattle.batch_script.specs.declared.device.Failed.{Failed}
 
 -- a count of faults rose, or stands at its last value
@@ -18,3 +19,12 @@ pub record TakesFirst (left : List ℕ) (left_after : Option (List ℕ)) (buffer
   pub read : take count buffer ≡ take count left
   pub rest : left_after ≡ Some (drop count left)
   pub ended : count ≡ 0 → 0 < length buffer → left ≡ []
+
+-- how many calls this one adds to those that moved bytes: none where it failed or moved none
+abbrev pub moves : Result ℕ Failed → ℕ
+moves (Ok count) = min count 1
+moves (Err failed) = 0
+
+-- calls led from the one to the other, of which at most so many moved bytes
+abbrev pub AtMost : {D : Type 0} → ℕ → (ℕ → D → D → Type 0) → D → D → Type 0
+AtMost most reaches before after = (calls : ℕ) × (calls ≤ most) × reaches calls before after

@@ -64,6 +64,16 @@ Run state (item ∷ items) (reply ∷ replies) = (next : State ℕ) × ItemStep 
 Run state [] (reply ∷ replies) = ⊥
 Run state (item ∷ items) [] = ⊥
 
+-- the replies of the run from this state in which memory is always found
+abbrev pub plain_replies : State ℕ → List Item → List Reply
+plain_replies state [] = []
+plain_replies state (item ∷ items) = (plain_step state item).0 ∷ plain_replies (plain_step state item).1 items
+
+-- the state at its end
+abbrev pub plain_end : State ℕ → List Item → State ℕ
+plain_end state [] = state
+plain_end state (item ∷ items) = plain_end (plain_step state item).1 items
+
 -- nothing was refused for memory: each script has one such run from empty
 abbrev pub IsPlain : List Reply → Type 0
 IsPlain = AllByRecursion (λ reply. reply ≢ no_memory)

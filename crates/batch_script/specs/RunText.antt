@@ -1,5 +1,5 @@
 -- The text that a run of a script writes.
-use Rattle.std.specs.Prelude.{◌≡◌, ℕ, List, ◌++◌}
+use Rattle.std.specs.Prelude.{◌≡◌, ◌≤◌, ℕ, List, [], ◌∷◌, ◌++◌, length, codes}
 use Rattle.batch_core.specs.State.{State, empty_state}
 use Rattle.batch_core.specs.Workspace.{Workspace}
 use Rattle.batch_script.specs.Grammar.{IsScriptOf}
@@ -13,6 +13,11 @@ IsTextOfRun items text = (replies : List Reply) × Run empty_state items replies
 -- the input is a script, and the text is that of one run of its items from empty
 abbrev pub IsRunText : List ℕ → List ℕ → Type 0
 IsRunText input text = (items : List Item) × IsScriptOf input items × IsTextOfRun items text
+
+-- the room is enough for the text of each run of the script, and for the line of want of memory
+pub record HoldsReplies (room : ℕ) (input : List ℕ) : Type 0 where
+  pub holds_runs : (text : List ℕ) → IsRunText input text → length text ≤ room
+  pub holds_refusal : length (text_of_lines (codes "error: out of memory" ∷ [])) ≤ room
 
 -- the state of the plain machine that a workspace stands for
 abbrev pub state_of : Workspace ℕ → State ℕ

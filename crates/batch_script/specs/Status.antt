@@ -19,16 +19,6 @@ Tells WriteFault left text = ⊥
 Tells TooLong left text = text ≡ text_of_lines (codes "error: input too long" ∷ [])
 Tells Usage left text = text ≡ text_of_lines (codes "usage: batch [gen SEED N]" ∷ [])
 
--- the sink gains the text of the status whole, or after a failed write a front of a text that was to be written
-abbrev pub Gains : Status → Option (List ℕ) → List ℕ → Type 0
-Gains Done left gained = Tells Done left gained
-Gains Syntax left gained = Tells Syntax left gained
-Gains Oom left gained = Tells Oom left gained
-Gains ReadFault left gained = Tells ReadFault left gained
-Gains WriteFault left gained = (status : Status) × (rest : List ℕ) × Tells status left (gained ++ rest)
-Gains TooLong left gained = Tells TooLong left gained
-Gains Usage left gained = Tells Usage left gained
-
 -- where the source tells its bytes, it is read to its end
 abbrev pub ReadsToEnd : Option (List ℕ) → Option (List ℕ) → Type 0
 ReadsToEnd left left_after = (input : List ℕ) → left ≡ Some input → left_after ≡ Some []

@@ -2,8 +2,9 @@
 //!
 //! A script is a list of items: `reserve n` makes the room larger, `show` tells all that is held, and a batch of commands takes
 //! effect whole or not at all. `run` answers the text of a script's replies, `parse` its items alone, and `top` is the whole
-//! program: words, a source and a sink in, a status out. `batch/src/main.rt` is a proved caller of it, over standard input and
-//! output; the devices in memory stand in for those in tests:
+//! program: words, a source and a sink in, a status out. `generate` makes a script of two numbers, to try a load with, and
+//! `summary` runs a script and tells in seven lines what it came to. `batch/src/main.rt` is a proved caller of `top`, over standard
+//! input and output; the devices in memory stand in for those in tests:
 //!
 //! ```text
 //! let mut source = MemSource::new(input, 4096, TryVec::new(alloc));
@@ -27,7 +28,9 @@
 //! script.
 #![tactic(auto)]
 
+mod callers;
 mod device;
+mod generator;
 mod item;
 mod kind;
 mod line;
@@ -37,12 +40,16 @@ mod program;
 mod reply;
 mod run_error;
 mod runner;
+mod summarizer;
+mod words;
 
 pub use device::{Failed, Sink, Source};
+pub use generator::generate;
 pub use item::{Item, Script};
 pub use kind::BatchKind;
-pub use memory_device::{MemSink, MemSource, PlainSource};
+pub use memory_device::{CountSink, MemSink, MemSource, PlainSource};
 pub use parser::parse;
 pub use program::{Status, top};
 pub use run_error::RunError;
 pub use runner::run;
+pub use summarizer::summary;

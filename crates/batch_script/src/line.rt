@@ -56,7 +56,7 @@ pub(crate) fn place_of(wanted: u8, bytes: &[u8]) -> Option<usize>
 }
 
 /// The number that these digits write, with no sign and no leading zero.
-fn read_number(digits: &[u8]) -> Option<u64>
+pub(crate) fn read_number(digits: &[u8]) -> Option<u64>
     ensures some { IfSome result (λ number. (number < 2 ^ 64) × (digits.now ≡ decimal number)) }
     ensures none { IfNone result ((number : ℕ) → number < 2 ^ 64 → digits.now ≢ decimal number) }
 {

@@ -1,8 +1,10 @@
 //! Sources and sinks in memory, which fail at the calls that they are told.
-ghost use Rattle.std.specs.Prelude.{◌≡◌, ◌+◌, ◌-◌, ◌<◌, ◌≤◌, ◌↔◌, ◌⊎◌, ◌++◌, ℕ, List, [], length, take, drop, min, Some};
-ghost use Rattle.std.specs.Prelude.{Contains, IsTrue, IsOk, IsErr, IfOk, OnOk, OnErr};
-ghost use Rattle.batch_script.specs.Device.{HasCause, TakesFirst};
-ghost use Rattle.batch_script.specs.MemoryDevice.{next_call};
+ghost use Rattle.std.specs.Prelude.{◌≡◌, ◌+◌, ◌-◌, ◌^◌, ◌<◌, ◌≤◌, ◌↔◌, ◌⊎◌, ◌++◌, ℕ, List, [], length, take, drop, min};
+ghost use Rattle.std.specs.Prelude.{Contains, IsTrue, IsOk, IsErr, IfOk, OnOk, OnErr, None, Some, Ok};
+ghost use Rattle.batch_script.specs.Device.{HasCause, TakesFirst, moves};
+ghost use Rattle.batch_script.specs.MemoryDevice.{Counted, Gave, SinkReaches, SourceReaches, next_call};
+ghost use Rattle.batch_script.specs.DeviceLaws.{counted_more, counted_none, gave_more, gave_none};
+ghost use Rattle.batch_script.specs.DeviceLaws.{sink_more, sink_none, source_more, source_none};
 
 use crate::device::{Failed, Sink, Source};
 use std::alloc::Global;
@@ -96,6 +98,8 @@ impl Source for PlainSource {
 
     ghost faults = { λ _. 0 };
 
+    ghost reaches = { Gave };
+
     fn read(&mut self, buf: &mut [u8]) -> Result<usize, Failed>
         ensures never_fails { IsOk result }
         ensures within { IfOk result (λ count. count ≤ length buf.old) }
@@ -103,10 +107,15 @@ impl Source for PlainSource {
             (λ count. (bytes : List ℕ) → Some self.old ≡ Some bytes → TakesFirst bytes (Some self.new) buf.new count) }
         ensures failed_takes_nothing { OnErr result (Some self.new ≡ Some self.old) }
         ensures cause { HasCause 0 0 result }
+        ensures reaches { Gave (moves result) self.old self.new }
     {
         let most = buf.len();
         Ok(self.take(buf, most))
     }
+
+    ghost stays = { gave_none };
+
+    ghost goes_on = { gave_more };
 }
 
 /// Input that lies in memory, is given in pieces, and fails at the calls that it is told. Own.
@@ -158,6 +167,8 @@ impl Source for MemSource {
 
     ghost faults = { λ s. s.faults };
 
+    ghost reaches = { SourceReaches };
+
     fn read(&mut self, buf: &mut [u8]) -> Result<usize, Failed>
         ensures listed { IsErr result ↔ Contains self.old.failing (next_call self.old.calls) }
         ensures count { IfOk result (λ count. count ≡ min (min self.old.piece (length buf.old)) (length self.old.left)) }
@@ -169,12 +180,17 @@ impl Source for MemSource {
             (λ count. (bytes : List ℕ) → Some self.old.left ≡ Some bytes → TakesFirst bytes (Some self.new.left) buf.new count) }
         ensures failed_takes_nothing { OnErr result (Some self.new.left ≡ Some self.old.left) }
         ensures cause { HasCause self.old.faults self.new.faults result }
+        ensures reaches { SourceReaches (moves result) self.old self.new }
     {
         if self.plan.next_call_fails() {
             return Err(self.plan.fail());
         }
         Ok(self.source.take(buf, self.piece))
     }
+
+    ghost stays = { source_none };
+
+    ghost goes_on = { source_more };
 }
 
 /// Output that is kept in memory, is taken in pieces, and fails at the calls that it is told and where its room is
@@ -252,6 +268,8 @@ impl Sink for MemSink {
 
     ghost faults = { λ s. s.faults };
 
+    ghost reaches = { SinkReaches };
+
     fn write(&mut self, piece: &[u8]) -> Result<usize, Failed>
         ensures fails { IsErr result
             ↔ (Contains self.old.failing (next_call self.old.calls) ⊎ ((0 < length piece.now) × (length self.old.bytes ≡ self.old.room))) }
@@ -266,6 +284,7 @@ impl Sink for MemSink {
             (λ count. (held : List ℕ) → Some self.old.bytes ≡ Some held → Some self.new.bytes ≡ Some (held ++ take count piece.now)) }
         ensures failed_takes_nothing { OnErr result (Some self.new.bytes ≡ Some self.old.bytes) }
         ensures cause { HasCause self.old.faults self.new.faults result }
+        ensures reaches { SinkReaches (moves result) self.old self.new }
     {
         if self.plan.next_call_fails() {
             return Err(self.plan.fail());
@@ -278,4 +297,63 @@ impl Sink for MemSink {
         self.bytes.extend_from_slice(&piece[..count]).unwrap();
         Ok(count)
     }
+
+    ghost stays = { sink_none };
+
+    ghost goes_on = { sink_more };
+}
+
+/// Output of which only the number of bytes is kept. It takes every byte and never fails, and doesn't tell its bytes. Own.
+///
+/// A contract sees the number.
+#[derive(Drop)]
+pub struct CountSink {
+    total: u64,
+}
+
+impl Model for CountSink {
+    ghost use Rattle.std.specs.Prelude.{ℕ, ⊤};
+
+    ghost Value = { ℕ };
+
+    ghost view = { λ s. s.total };
+
+    ghost invariant = { λ _. ⊤ };
+}
+
+impl CountSink {
+    /// A sink that has taken no byte yet. Own.
+    pub fn new() -> CountSink
+        ensures none { result ≡ 0 }
+    {
+        CountSink { total: 0 }
+    }
+
+    /// How many bytes it took; the number stands still at 18446744073709551615. Own.
+    pub fn total(&self) -> u64
+        ensures total { result ≡ self.now }
+    {
+        self.total
+    }
+}
+
+impl Sink for CountSink {
+    ghost written = { λ _. None };
+
+    ghost faults = { λ _. 0 };
+
+    ghost reaches = { Counted };
+
+    fn write(&mut self, piece: &[u8]) -> Result<usize, Failed>
+        ensures takes_all { result ≡ Ok (length piece.now) }
+        ensures counted { self.new ≡ min (self.old + length piece.now) (2 ^ 64 - 1) }
+        ensures reaches { Counted (moves result) self.old self.new }
+    {
+        self.total = self.total.saturating_add(piece.len() as u64);
+        Ok(piece.len())
+    }
+
+    ghost stays = { counted_none };
+
+    ghost goes_on = { counted_more };
 }

@@ -1,17 +1,24 @@
 //! The whole program, over any source and any sink.
 ghost use Rattle.std.specs.Prelude.{◌≡◌, ◌≢◌, ◌⊎◌, ◌+◌, ◌<◌, ◌≤◌, ◌++◌, ℕ, List, [], length, Some, IfOk, IfErr, OnOk, OnErr};
-ghost use Rattle.batch_script.specs.Attempt.{Answers, Attempts, Finishes, IsReadEnd, ReadsAll, WritesFront, WritesWhole};
-ghost use Rattle.batch_script.specs.Device.{Rose};
+ghost use Rattle.batch_script.specs.Attempt.{Answers, AnswersRun, Concludes, Finishes, IsReadEnd, ReadsAll};
+ghost use Rattle.batch_script.specs.Attempt.{SummarizesRun, WritesFront, WritesWhole};
+ghost use Rattle.batch_script.specs.Device.{AtMost, Rose};
 ghost use Rattle.batch_script.specs.Grammar.{IsScript, IsFaultLine};
+ghost use Rattle.batch_script.specs.Generated.{generated, most_batches};
 ghost use Rattle.batch_script.specs.Headline.{Premises, RunsWhole, WantsMemory, input_limit};
-ghost use Rattle.batch_script.specs.Status.{Gains, IsBeyondLimit, IsNoScript, IsWithinLimit, ReadsToEnd};
 ghost use Rattle.batch_script.specs.Machine.{Item};
+ghost use Rattle.batch_script.specs.Summary.{summary_text};
+ghost use Rattle.batch_script.specs.Words.{AsksForRun, AsksForScript, AsksForUsage};
 ghost use Rattle.batch_script.specs.declared.program.Status.{Status};
 
 use crate::device::{Failed, Sink, Source};
+use crate::generator::generate;
 use crate::run_error::RunError;
 use crate::runner::run;
+use crate::summarizer::summary;
+use crate::words::{Wish, wish_of};
 use std::alloc::Global;
+use wic_base::OutOfMemory;
 use wic_vec::{TryString, TryVec};
 
 /// The most bytes that an input may have.
@@ -62,6 +69,7 @@ fn read_input<S: Source>(alloc: Global, source: &mut S) -> Result<TryVec<u8>, Re
     ensures bytes { IfOk result (λ bytes. ReadsAll (S.left source.old) (S.left source.new) bytes.items) }
     ensures kept { OnOk result (S.faults source.new ≡ S.faults source.old) }
     ensures end { IfErr result (IsReadEnd (S.left source.old) (S.faults source.old) (S.faults source.new)) }
+    ensures reads { AtMost (input_limit + 1) S.reaches source.old source.new }
 {
     let mut bytes = TryVec::new(alloc);
     let mut piece = [0; PIECE];
@@ -90,8 +98,8 @@ fn take_piece(bytes: &mut TryVec<u8>, piece: &[u8]) -> Result<(), ReadEnd>
 
 /// Writes a text whole, in pieces that the sink takes.
 fn write_text<K: Sink>(text: &str, sink: &mut K) -> Result<(), Failed>
-    ensures whole { OnOk result (WritesWhole text.now (K.written sink.old) (K.written sink.new) (K.faults sink.old) (K.faults sink.new)) }
-    ensures front { OnErr result (WritesFront text.now (K.written sink.old) (K.written sink.new) (K.faults sink.old) (K.faults sink.new)) }
+    ensures whole { OnOk result (WritesWhole text.now K.written K.faults K.reaches sink.old sink.new) }
+    ensures front { OnErr result (WritesFront text.now K.written K.faults K.reaches sink.old sink.new) }
 {
     let mut rest = text.as_bytes();
     while !rest.is_empty() {
@@ -103,7 +111,7 @@ fn write_text<K: Sink>(text: &str, sink: &mut K) -> Result<(), Failed>
 
 /// Writes a text and answers the status, or that a write failed.
 fn finish<K: Sink>(text: &str, status: Status, sink: &mut K) -> Status
-    ensures { Finishes text.now status result (K.written sink.old) (K.written sink.new) (K.faults sink.old) (K.faults sink.new) }
+    ensures { Finishes text.now status result K.written K.faults K.reaches sink.old sink.new }
 {
     match write_text(text, sink) {
         Ok(()) => status,
@@ -114,7 +122,7 @@ fn finish<K: Sink>(text: &str, status: Status, sink: &mut K) -> Status
 /// Runs the input and writes the replies, or why there are none.
 fn answer<K: Sink>(alloc: Global, input: &[u8], sink: &mut K) -> Status
     ensures { (status : Status) × (text : List ℕ) × Answers status input.now text
-        × Finishes text status result (K.written sink.old) (K.written sink.new) (K.faults sink.old) (K.faults sink.new) }
+        × Finishes text status result K.written K.faults K.reaches sink.old sink.new }
 {
     match run(alloc, input) {
         Ok(text) => finish(text.as_str(), Status::Done, sink),
@@ -127,11 +135,44 @@ fn answer<K: Sink>(alloc: Global, input: &[u8], sink: &mut K) -> Status
 fn answer_syntax<K: Sink>(alloc: Global, line: u64, sink: &mut K) -> Status
     ensures { (status : Status) × (text : List ℕ)
         × ((input : List ℕ) → ¬ IsScript input → IsFaultLine input line → Answers status input text)
-        × Finishes text status result (K.written sink.old) (K.written sink.new) (K.faults sink.old) (K.faults sink.new) }
+        × Finishes text status result K.written K.faults K.reaches sink.old sink.new }
 {
     match format!(in alloc; "error: syntax at line {line}\n") {
         Ok(text) => finish(text.as_str(), Status::Syntax, sink),
         Err(_) => finish("error: out of memory\n", Status::Oom, sink),
+    }
+}
+
+/// The summary of the script that is generated from these numbers.
+fn summary_of_run(alloc: Global, seed: u64, count: u64) -> Result<TryString, OutOfMemory>
+    requires few { count ≤ most_batches }
+    ensures { IfOk result (λ text. text.bytes ≡ summary_text (generated seed count)) }
+{
+    summary(alloc, generate(alloc, seed, count)?)
+}
+
+/// Writes the summary of the script that is generated from these numbers.
+fn answer_run<K: Sink>(alloc: Global, seed: u64, count: u64, sink: &mut K) -> Status
+    requires few { count ≤ most_batches }
+    ensures { (status : Status) × (text : List ℕ) × AnswersRun status seed count text
+        × Finishes text status result K.written K.faults K.reaches sink.old sink.new }
+{
+    match summary_of_run(alloc, seed, count) {
+        Ok(text) => finish(text.as_str(), Status::Done, sink),
+        Err(_) => finish("error: out of memory\n", Status::Oom, sink),
+    }
+}
+
+/// Reads a script and answers it, and says how it came to the status.
+fn answer_input<S: Source, K: Sink>(alloc: Global, source: &mut S, sink: &mut K) -> Status
+    ensures concludes { Concludes result [] S.left S.faults source.old source.new K.written K.faults K.reaches sink.old sink.new }
+    ensures reads { AtMost (input_limit + 1) S.reaches source.old source.new }
+{
+    match read_input(alloc, source) {
+        Ok(input) => answer(alloc, input.as_slice(), sink),
+        Err(ReadEnd::Fault) => finish("error: read fault\n", Status::ReadFault, sink),
+        Err(ReadEnd::TooLong) => finish("error: input too long\n", Status::TooLong, sink),
+        Err(ReadEnd::Oom) => finish("error: out of memory\n", Status::Oom, sink),
     }
 }
 
@@ -142,27 +183,27 @@ fn conclude<S: Source, K: Sink>(
     source: &mut S,
     sink: &mut K,
 ) -> Status
-    ensures { (status : Status) × (text : List ℕ)
-        × Attempts status words.now.items (S.left source.old) (S.left source.new) (S.faults source.old) (S.faults source.new) text
-        × Finishes text status result (K.written sink.old) (K.written sink.new) (K.faults sink.old) (K.faults sink.new) }
+    ensures concludes { Concludes result words.now.items S.left S.faults source.old source.new
+        K.written K.faults K.reaches sink.old sink.new }
+    ensures reads { AtMost (input_limit + 1) S.reaches source.old source.new }
+    ensures source_stays { words.now.items ≢ [] → source.new ≡ source.old }
 {
-    if !words.is_empty() {
-        return finish("usage: batch [gen SEED N]\n", Status::Usage, sink);
-    }
-    match read_input(alloc, source) {
-        Ok(input) => answer(alloc, input.as_slice(), sink),
-        Err(ReadEnd::Fault) => finish("error: read fault\n", Status::ReadFault, sink),
-        Err(ReadEnd::TooLong) => finish("error: input too long\n", Status::TooLong, sink),
-        Err(ReadEnd::Oom) => finish("error: out of memory\n", Status::Oom, sink),
+    match wish_of(words) {
+        Wish::Script => answer_input(alloc, source, sink),
+        Wish::Generated(seed, count) => answer_run(alloc, seed, count, sink),
+        Wish::Usage => finish("usage: batch [gen SEED N]\n", Status::Usage, sink),
     }
 }
 
-/// The whole program: reads a script from `source`, runs it, and writes the replies to `sink`. Own.
+/// The whole program: reads a script from `source`, runs it, and writes the replies to `sink`; or runs the script that is
+/// generated from two numbers, and writes its summary. Own.
 ///
-/// Any word is answered by the usage, and nothing is read. Else input is read to its end in pieces of 4096 bytes;
-/// then the replies of the script are written, or one line that says why there are none. The status says which.
-/// Each write is offered all that is left of the text; an empty text makes no write, and the first failed one ends
-/// the call.
+/// With no words input is read to its end in pieces of 4096 bytes; then the replies of the script are written, or one line that
+/// says why there are none. With `gen SEED N`, two numbers in decimal of which N is at most 100000, nothing is read, and the seven
+/// lines of the summary are written. All other words are answered by the usage, and nothing is read. The status says which it was:
+/// where several answers might come it is the usage; then a read fault, an input too long or want of memory, whichever reading
+/// meets first; then a fault of the script or want of memory; and a write fault in place of any of these. Each write is offered all
+/// that is left of the text; an empty text makes no write, and the first failed one ends the call.
 pub fn top<S: Source, K: Sink>(
     alloc: Global,
     words: &TryVec<TryString>,
@@ -175,33 +216,40 @@ pub fn top<S: Source, K: Sink>(
         (S.faults source.old) (S.faults source.new) (K.faults sink.old) (K.faults sink.new) input held items
         → RunsWhole result (K.written sink.new) held items ⊎ WantsMemory result (K.written sink.new) held }
 
-    // What is written, with each status.
-    ensures gains { (held : List ℕ) → K.written sink.old ≡ Some held
-        → (gained : List ℕ) × Gains result (S.left source.old) gained × (K.written sink.new ≡ Some (held ++ gained)) }
+    // For two numbers the summary of the script that they generate is written whole, or memory was wanted.
+    ensures summary { (seed count : ℕ) (held : List ℕ) → AsksForRun words.now.items seed count
+        → K.written sink.old ≡ Some held → ¬ Rose (K.faults sink.old) (K.faults sink.new)
+        → SummarizesRun result (K.written sink.new) held seed count ⊎ WantsMemory result (K.written sink.new) held }
 
-    // When each status comes.
-    ensures done { result ≡ Status.Done → (words.now.items ≡ []) × ReadsToEnd (S.left source.old) (S.left source.new)
-        × IsWithinLimit (S.left source.old)
-        × (S.faults source.new ≡ S.faults source.old) × (K.faults sink.new ≡ K.faults sink.old) }
-    ensures syntax { result ≡ Status.Syntax → (words.now.items ≡ []) × IsNoScript (S.left source.old)
-        × (S.faults source.new ≡ S.faults source.old) × (K.faults sink.new ≡ K.faults sink.old) }
-    ensures syntax_enough { (input : List ℕ) → words.now.items ≡ [] → S.left source.old ≡ Some input
+    // How it comes to each status, what is then written, and by how many writes.
+    ensures concludes { Concludes result words.now.items S.left S.faults source.old source.new
+        K.written K.faults K.reaches sink.old sink.new }
+
+    // How often is read: at most so often, and not at all where there are words.
+    ensures reads { AtMost (input_limit + 1) S.reaches source.old source.new }
+    ensures source_stays { words.now.items ≢ [] → source.new ≡ source.old }
+
+    // A fault is answered only where its count rose, and the usage only where the words ask for it.
+    ensures read_fault { result ≡ Status.ReadFault → Rose (S.faults source.old) (S.faults source.new) }
+    ensures write_fault { result ≡ Status.WriteFault → Rose (K.faults sink.old) (K.faults sink.new) }
+    ensures usage { result ≡ Status.Usage → AsksForUsage words.now.items }
+
+    // Which status it is where no count rose, whatever the sink tells.
+    ensures script_enough { (input : List ℕ) → AsksForScript words.now.items → S.left source.old ≡ Some input
+        → length input ≤ input_limit → IsScript input
+        → ¬ Rose (S.faults source.old) (S.faults source.new) → ¬ Rose (K.faults sink.old) (K.faults sink.new)
+        → (result ≡ Status.Done) ⊎ (result ≡ Status.Oom) }
+    ensures syntax_enough { (input : List ℕ) → AsksForScript words.now.items → S.left source.old ≡ Some input
         → length input ≤ input_limit → ¬ IsScript input
         → ¬ Rose (S.faults source.old) (S.faults source.new) → ¬ Rose (K.faults sink.old) (K.faults sink.new)
         → (result ≡ Status.Syntax) ⊎ (result ≡ Status.Oom) }
-    ensures oom { result ≡ Status.Oom → words.now.items ≡ [] }
-    ensures read_fault { result ≡ Status.ReadFault → (words.now.items ≡ []) × Rose (S.faults source.old) (S.faults source.new) }
-    ensures write_fault { result ≡ Status.WriteFault → Rose (K.faults sink.old) (K.faults sink.new) }
-    ensures too_long { result ≡ Status.TooLong → (words.now.items ≡ []) × IsBeyondLimit (S.left source.old)
-        × (S.faults source.new ≡ S.faults source.old) × (K.faults sink.new ≡ K.faults sink.old) }
-    ensures too_long_enough { (input : List ℕ) → words.now.items ≡ [] → S.left source.old ≡ Some input
+    ensures too_long_enough { (input : List ℕ) → AsksForScript words.now.items → S.left source.old ≡ Some input
         → input_limit < length input
         → ¬ Rose (S.faults source.old) (S.faults source.new) → ¬ Rose (K.faults sink.old) (K.faults sink.new)
         → (result ≡ Status.TooLong) ⊎ (result ≡ Status.Oom) }
-    ensures usage { result ≡ Status.Usage → (words.now.items ≢ []) × (K.faults sink.new ≡ K.faults sink.old) }
-    ensures usage_enough { words.now.items ≢ [] → ¬ Rose (K.faults sink.old) (K.faults sink.new) → result ≡ Status.Usage }
-    ensures usage_reads_nothing { words.now.items ≢ []
-        → (S.left source.new ≡ S.left source.old) × (S.faults source.new ≡ S.faults source.old) }
+    ensures run_enough { (seed count : ℕ) → AsksForRun words.now.items seed count
+        → ¬ Rose (K.faults sink.old) (K.faults sink.new) → (result ≡ Status.Done) ⊎ (result ≡ Status.Oom) }
+    ensures usage_enough { AsksForUsage words.now.items → ¬ Rose (K.faults sink.old) (K.faults sink.new) → result ≡ Status.Usage }
 {
     conclude(alloc, words, source, sink)
 }

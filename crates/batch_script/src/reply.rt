@@ -51,7 +51,7 @@ fn push_record(text: &mut TryString, entry: &Record<u64>) -> Result<(), OutOfMem
 }
 
 /// Writes a line of a word and a number.
-fn push_number(text: &mut TryString, word: &str, number: u64) -> Result<(), OutOfMemory>
+pub(crate) fn push_number(text: &mut TryString, word: &str, number: u64) -> Result<(), OutOfMemory>
     ensures line { OnOk result (text.new.bytes ≡ text.old.bytes ++ text_of_lines ((word.now ++ decimal number) ∷ [])) }
 {
     text.push_str(word)?;

@@ -1,5 +1,6 @@
-use Rattle.std.proofs.Common.{◌≡◌, ◌<◌, ◌∙◌, ◌++◌, ap, drop, length, Some, arith}
-use Rattle.batch_script.proofs.Pieces.{read-more, read-all}
+use Rattle.std.proofs.Common.{◌≡◌, ◌<◌, ◌∙◌, ◌++◌, ap, drop, length, take, min, Some, arith}
+use Rattle.std.proofs.lemmas.List.{length-append, length-take}
+use Rattle.batch_script.proofs.Pieces.{and_one, read-more, read-all}
 use Rattle.batch_script.proofs.program.read_input.Goals as goal
 
 pub returns-in-Ok-eq0-clause-bytes : goal.returns-in-Ok-eq0-clause-bytes
@@ -28,4 +29,27 @@ loop-bytes-preserved g c =
         ap (λ items. items ++ drop count left.0) c.in_ok-take_piece-in-Ok.ensures.taken
             ∙ read-more c.loop-bytes.bytes.items left.0 input c.read.new.buf (g.S.Source.left c.read.new.self) count left.2 takes,
       ),
+      and_one g.S.Source.reaches g.met.S.Source.goes_on (length c.loop-bytes.bytes.items) (min count 1)
+          (length c.take_piece.new.bytes.items) c.args.source.now c.loop-bytes.source c.read.new.self inv.4 c.in-Ok.ensures.reaches (
+          let within = c.in-Ok.ensures.within in let buffer = c.read.new.buf in
+          let grown = ap length c.in_ok-take_piece-in-Ok.ensures.taken ∙ length-append c.loop-bytes.bytes.items (take count buffer) in
+          let piece = length-take count buffer in omega arith),
     )
+
+pub returns-in-Ok-eq0-clause-reads : goal.returns-in-Ok-eq0-clause-reads
+returns-in-Ok-eq0-clause-reads g c =
+    let inv = c.loop-bytes.invariant in
+    and_one g.S.Source.reaches g.met.S.Source.goes_on (length c.loop-bytes.bytes.items) (min c.in-Ok-eq0.field-0 1) 67108865
+    c.args.source.now c.loop-bytes.source c.read.new.self inv.4 c.in-Ok-eq0.ensures.reaches (omega arith)
+
+pub returns-in_err-take_piece-in-Ok-clause-reads : goal.returns-in_err-take_piece-in-Ok-clause-reads
+returns-in_err-take_piece-in-Ok-clause-reads g c =
+    let inv = c.loop-bytes.invariant in
+    and_one g.S.Source.reaches g.met.S.Source.goes_on (length c.loop-bytes.bytes.items) (min c.in-Ok.count 1) 67108865
+    c.args.source.now c.loop-bytes.source c.read.new.self inv.4 c.in-Ok.ensures.reaches (omega arith)
+
+pub returns-in-Err-clause-reads : goal.returns-in-Err-clause-reads
+returns-in-Err-clause-reads g c =
+    let inv = c.loop-bytes.invariant in
+    and_one g.S.Source.reaches g.met.S.Source.goes_on (length c.loop-bytes.bytes.items) 0 67108865
+    c.args.source.now c.loop-bytes.source c.read.new.self inv.4 c.in-Err.ensures.reaches (omega arith)

@@ -1,5 +1,8 @@
-use Rattle.std.proofs.Common.{◌∙◌, ◌++◌, ap, take, Some, append_assoc}
-use Rattle.batch_script.proofs.Pieces.{front-more}
+use Rattle.std.proofs.Common.{◌∙◌, ◌++◌, ap, arith, length, min, take, Some, subst, append_assoc}
+use Rattle.std.proofs.lemmas.Bool.Decides.{nat_tests}
+use Rattle.batch_script.specs.Device.{Rose}
+use Rattle.std.proofs.lemmas.List.{length-append, length-take}
+use Rattle.batch_script.proofs.Pieces.{and_one, front-more, nonempty, on-err}
 use Rattle.batch_script.proofs.program.write_text.Goals as goal
 
 pub loop-rest-preserved : goal.loop-rest-preserved
@@ -13,5 +16,24 @@ loop-rest-preserved g c =
         inv.1.1 ∙ front-more inv.1.0 rest count,
         λ held was. c.in_ok-count.ensures.bytes (held ++ inv.1.0) (inv.1.2 held was)
             ∙ ap Some (append_assoc held inv.1.0 (take count rest)),
+        and_one g.K.Sink.reaches g.met.K.Sink.goes_on (length inv.1.0) (min count 1) (length (inv.1.0 ++ take count rest)) c.args.sink.now
+            c.loop-rest.sink c.write.new.self inv.1.3 c.in_ok-count.ensures.reaches (
+            let within = c.in_ok-count.ensures.within in let long = length-append inv.1.0 (take count rest) in
+            let piece = length-take count rest in omega arith),
       ),
     )
+
+pub returns-in_err-count-clause-front : goal.returns-in_err-count-clause-front
+returns-in_err-count-clause-front g c =
+    let inv = c.loop-rest.invariant in
+    let failed = c.in_err-count.ensures in
+    on-err c.from_residual.result (record {
+      rose = subst (λ before. Rose before (g.K.Sink.faults c.write.new.self)) inv.0 failed.cause.failed;
+      front = inv.1.0;
+      rest = c.loop-rest.rest.now;
+      parts = inv.1.1;
+      more = nonempty c.loop-rest.rest.now (grind (arith, nat_tests));
+      gained = λ held was. failed.failed_takes_nothing ∙ inv.1.2 held was;
+      writes = and_one g.K.Sink.reaches g.met.K.Sink.goes_on (length inv.1.0) 0 (length inv.1.0) c.args.sink.now c.loop-rest.sink
+          c.write.new.self inv.1.3 failed.reaches (omega arith);
+    })

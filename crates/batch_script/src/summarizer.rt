@@ -1,0 +1,115 @@
+//! Runs a script and tells what it came to in seven lines.
+ghost use Rattle.std.specs.Prelude.{◌≡◌, ◌+◌, ◌<◌, ◌^◌, IfOk, OnOk};
+ghost use Rattle.batch_core.specs.State.{empty_state};
+ghost use Rattle.batch_script.specs.Machine.{plain_end, plain_step, batch as plain_batch, reserve as reservation};
+ghost use Rattle.batch_script.specs.Reading.{plain_item, plain_items};
+ghost use Rattle.batch_script.specs.RunText.{state_of};
+ghost use Rattle.batch_script.specs.Summary.{summary_text, AreCounts, CountsItem};
+
+use crate::item::{Item, Script};
+use crate::reply::push_number;
+use batch_core::{Batch, Cause, Done, Refusal, ReserveRefusal, Workspace};
+use std::alloc::Global;
+use wic_base::OutOfMemory;
+use wic_vec::{TryString, TryVec};
+
+/// How many batches were committed, aborted, and refused for a cause.
+#[derive(Drop)]
+struct Counts {
+    committed: u64,
+    aborted: u64,
+    refused: u64,
+}
+
+/// Runs the items of a script from an empty workspace, and answers in seven lines how many batches were committed, aborted and
+/// refused for a cause, and how many values the list has at the end, members the set, and live ids the table, and which is the next
+/// id. Own.
+///
+/// No reply is made. The first item that finds no memory ends it with `OutOfMemory`, and so does want of memory for the lines: so
+/// the lines are always those of the run in which nothing is refused for memory.
+pub fn summary(alloc: Global, script: Script) -> Result<TryString, OutOfMemory>
+    ensures lines { IfOk result (λ text. text.bytes ≡ summary_text (plain_items script.items.items)) }
+{
+    let mut workspace = Workspace::new(alloc);
+    let counts = count_items(script.items, &mut workspace)?;
+    let mut text = TryString::new(alloc);
+    push_number(&mut text, "committed ", counts.committed)?;
+    push_number(&mut text, "aborted ", counts.aborted)?;
+    push_number(&mut text, "refused ", counts.refused)?;
+    push_number(&mut text, "list ", workspace.list().len() as u64)?;
+    push_number(&mut text, "set ", workspace.set().len() as u64)?;
+    push_number(&mut text, "live ", workspace.table().len() as u64)?;
+    push_number(
+        &mut text,
+        "next ",
+        workspace.table().next_id().into_raw() as u64,
+    )?;
+    Ok(text)
+}
+
+/// Runs items, and counts what the batches came to.
+fn count_items(items: TryVec<Item>, workspace: &mut Workspace<u64>) -> Result<Counts, OutOfMemory>
+    requires empty { state_of workspace.old ≡ empty_state }
+    ensures counts { IfOk result (AreCounts (plain_items items.items)) }
+    ensures end { OnOk result (state_of workspace.new ≡ plain_end empty_state (plain_items items.items)) }
+{
+    let mut counts = Counts {
+        committed: 0,
+        aborted: 0,
+        refused: 0,
+    };
+    for item in items {
+        count_item(item, workspace, &mut counts)?;
+    }
+    Ok(counts)
+}
+
+/// Runs an item, and counts what it came to where it is a batch.
+fn count_item(
+    item: Item,
+    workspace: &mut Workspace<u64>,
+    counts: &mut Counts,
+) -> Result<(), OutOfMemory>
+    requires small { counts.old.committed + counts.old.aborted + counts.old.refused + 1 < 2 ^ 64 }
+    ensures counted { OnOk result (CountsItem (plain_item item) workspace.old workspace.new counts.old counts.new) }
+{
+    match item {
+        Item::Reserve(number) => enlarge(number, workspace),
+        Item::Show => Ok(()),
+        Item::Batch(batch) => count_batch(batch, workspace, counts),
+    }
+}
+
+/// Makes the room larger, where it may be so large.
+fn enlarge(number: u64, workspace: &mut Workspace<u64>) -> Result<(), OutOfMemory>
+    ensures state { OnOk result (state_of workspace.new ≡ (plain_step (state_of workspace.old) (reservation number)).1) }
+{
+    match workspace.reserve(number) {
+        Ok(()) => Ok(()),
+        Err(refusal) => match refusal {
+            ReserveRefusal::TooLarge => Ok(()),
+            ReserveRefusal::Oom(oom) => Err(oom),
+        },
+    }
+}
+
+/// Runs a batch, and counts what it came to.
+fn count_batch(
+    batch: Batch<u64>,
+    workspace: &mut Workspace<u64>,
+    counts: &mut Counts,
+) -> Result<(), OutOfMemory>
+    requires small { counts.old.committed + counts.old.aborted + counts.old.refused + 1 < 2 ^ 64 }
+    ensures counted { OnOk result
+        (CountsItem (plain_batch batch.commands.items batch.end) workspace.old workspace.new counts.old counts.new) }
+{
+    match workspace.apply(batch) {
+        Ok(Done::Committed) => counts.committed += 1,
+        Ok(Done::Aborted) => counts.aborted += 1,
+        Err(Refusal { cause, at: _ }) => match cause {
+            Cause::Oom(oom) => return Err(oom),
+            _ => counts.refused += 1,
+        },
+    }
+    Ok(())
+}
