@@ -1,12 +1,15 @@
 -- Lemmas on the digits of a number.
-use Rattle.std.proofs.Common.{⊎_elim, ◌≡◌, ℕ, zero, suc, ◌+◌, ◌-◌, ◌*◌, ◌^◌, ◌/◌, ◌%◌, ◌<◌, ◌≤◌, true, false, not, ◌&&◌, ◌||◌, ◌⊎◌, refl, sym, ap, subst, ◌∙◌, inl, inr, arith, ◌↔◌, bit_and, bit_or, IsTrue}
+use Rattle.std.proofs.Common.{⊎_elim, ◌≡◌, ℕ, zero, suc, ◌+◌, ◌-◌, ◌*◌, ◌^◌, ◌/◌, ◌%◌, ◌<◌, ◌≤◌, true, false, not, ◌&&◌, ◌||◌, ◌⊎◌, refl}
+use Rattle.std.proofs.Common.{sym, ap, subst, ◌∙◌, inl, inr, arith, ◌↔◌, bit_and, bit_or, IsTrue}
 use Rattle.std.specs.Prelude.{◌==◌, nat_lt, nat_eq}
 use Rattle.std.specs.Int.{bit_at}
 use Rattle.std.proofs.lemmas.Bool.{cases_eq, cases_lt}
 use Rattle.std.proofs.lemmas.Bool.Decides.{nat_tests}
 use Rattle.std.proofs.lemmas.Nat.{and-not, one_shl, pow_below, pow_pos, leading_top, le-div, div_below, shr_split}
 use Rattle.std.proofs.Math.Nat.{eq-zero-or-pos, pow-suc}
-use Rattle.std.proofs.lemmas.Nat.Bits.{bit_at-zero, bit_at_and, bit_at_or, bit_at-pow_same, bit_at-pow_other, bit_at_ones, bit_at_ones_above, bit_at-lt, same_from_bits_below, and_pow, ones_shr, bit_at-suc, bit_at_lowest, bit_at_above, bit_at_cat_low}
+use Rattle.std.proofs.lemmas.Nat.Bits.{bit_at-zero, bit_at_and, bit_at_or, bit_at-pow_same, bit_at-pow_other, bit_at_ones}
+use Rattle.std.proofs.lemmas.Nat.Bits.{bit_at_ones_above, bit_at-lt, same_from_bits_below, and_pow, ones_shr, bit_at-suc, bit_at_lowest}
+use Rattle.std.proofs.lemmas.Nat.Bits.{bit_at_above, bit_at_cat_low}
 use lib.Count.{count_leading_zeros, count_trailing_zeros}
 use Rattle.wic_scalar.specs.Digits.{is_one, SameDigits, IsLowZeros, IsHighZeros}
 
@@ -28,7 +31,8 @@ is_one-bit_or a b i = let e = bit_at_or a b i in grind (arith, digit_cases (bit_
 pub is_one-pow : (w i k : ℕ) → i < w → is_one (1 * 2 ^ i % 2 ^ w) k ≡ (k == i)
 is_one-pow w i k h =
     rw (one_shl i w h) (⊎_elim
-    (λ same. let at : bit_at (2 ^ i) k ≡ 1 = ap (bit_at (2 ^ i)) same ∙ bit_at-pow_same i in grind (arith, nat_tests, digit_cases (2 ^ i) k))
+    (λ same. let at : bit_at (2 ^ i) k ≡ 1 = ap (bit_at (2 ^ i)) same ∙ bit_at-pow_same i in
+    grind (arith, nat_tests, digit_cases (2 ^ i) k))
     (λ apart. let at : bit_at (2 ^ i) k ≡ 0 = bit_at-pow_other i k apart in grind (arith, nat_tests, digit_cases (2 ^ i) k))
     (cases_eq k i))
 
@@ -125,7 +129,8 @@ equal_digits w a b p q = (
 -- the lowest k digits
 pub is_one-mod : (n k i : ℕ) → i < k → is_one (n % 2 ^ k) i ≡ is_one n i
 is_one-mod n k i h =
-    let e : bit_at n i ≡ bit_at (n % 2 ^ k) i = ap (λ m. bit_at m i) (sym (shr_split n k)) ∙ bit_at_cat_low (n / 2 ^ k) k (n % 2 ^ k) i h in
+    let e : bit_at n i ≡ bit_at (n % 2 ^ k) i =
+    ap (λ m. bit_at m i) (sym (shr_split n k)) ∙ bit_at_cat_low (n / 2 ^ k) k (n % 2 ^ k) i h in
     grind (arith, digit_cases n i, digit_cases (n % 2 ^ k) i)
 
 -- the digit at k, where n has no more than k + 1 digits

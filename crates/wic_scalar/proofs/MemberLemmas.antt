@@ -1,11 +1,14 @@
 -- Lemmas on the members of a number's set.
-use Rattle.std.proofs.Common.{⊎_elim, ◌≡◌, ℕ, zero, suc, ◌+◌, ◌-◌, ◌*◌, ◌^◌, ◌/◌, ◌%◌, ◌<◌, ◌≤◌, Bool, true, false, not, ◌&&◌, ◌||◌, cond, ltb, leb, List, [], ◌∷◌, ◌++◌, length, refl, sym, ap, ◌∙◌, arith, ◌↔◌, ◌≢◌, zero-add, add-zero, append-nil, length-append}
+use Rattle.std.proofs.Common.{⊎_elim, ◌≡◌, ℕ, zero, suc, ◌+◌, ◌-◌, ◌*◌, ◌^◌, ◌/◌, ◌%◌, ◌<◌, ◌≤◌, Bool, true, false, not, ◌&&◌, ◌||◌, cond}
+use Rattle.std.proofs.Common.{ltb, leb, List, [], ◌∷◌, ◌++◌, length, refl, sym, ap, ◌∙◌, arith, ◌↔◌, ◌≢◌, zero-add, add-zero, append-nil}
+use Rattle.std.proofs.Common.{length-append}
 use Rattle.std.specs.Prelude.{◌==◌, nat_lt, nat_eq, Contains, All}
 use Rattle.std.specs.List.Sorted.{IsStrictlyIncreasing}
 use Rattle.std.specs.List.{filter, range_with_len, list_any}
 use Rattle.std.specs.Ordering.{nat_cmp, eq_by_cmp}
 use Rattle.std.specs.Cmp.{nat_cmp_total, unsigned_tied}
-use Rattle.std.specs.FinSet.{FinSet, contains, insert, remove, from_list, same_set, contains-insert, contains-remove, contains-from_list_nat, nat_cmp-IsAntisymmetric}
+use Rattle.std.specs.FinSet.{FinSet, contains, insert, remove, from_list, same_set, contains-insert, contains-remove}
+use Rattle.std.specs.FinSet.{contains-from_list_nat, nat_cmp-IsAntisymmetric}
 use Rattle.std.proofs.lemmas.Bool.{cases_eq, cases_lt, cases_Bool, false_from_ne_true, and_parts, ltb-true}
 use Rattle.std.proofs.lemmas.Bool.Decides.{nat_tests}
 use Rattle.std.proofs.lemmas.List.Elements.{All-nil, All-cons, All-contains, filter-append}
@@ -22,11 +25,13 @@ use Rattle.wic_scalar.proofs.DigitLemmas.{is_one-mod, top_digit}
 -- ---- a range that a test filters
 
 -- two tests that agree on the range keep the same numbers
-filter_agree_in : (p q : ℕ → Bool) (a n : ℕ) → ((i : ℕ) → a ≤ i → i < a + n → p i ≡ q i) → filter p (range_with_len a n) ≡ filter q (range_with_len a n)
+filter_agree_in : (p q : ℕ → Bool) (a n : ℕ) → ((i : ℕ) → a ≤ i → i < a + n → p i ≡ q i)
+    → filter p (range_with_len a n) ≡ filter q (range_with_len a n)
 filter_agree_in p q a zero same = refl
 filter_agree_in p q a (suc n) same =
     let here : p a ≡ q a = same a (omega arith) (omega arith) in
-    let rest : filter p (range_with_len (a + 1) n) ≡ filter q (range_with_len (a + 1) n) = filter_agree_in p q (a + 1) n (λ i low high. same i (omega arith) (omega arith)) in
+    let rest : filter p (range_with_len (a + 1) n) ≡ filter q (range_with_len (a + 1) n) =
+    filter_agree_in p q (a + 1) n (λ i low high. same i (omega arith) (omega arith)) in
     rw (here, rest) refl
 
 -- a test that fails on the range keeps nothing
@@ -39,41 +44,54 @@ filter_none_in p a (suc n) none =
 filter_all_in : (p : ℕ → Bool) (a n : ℕ) → ((i : ℕ) → a ≤ i → i < a + n → p i ≡ true) → filter p (range_with_len a n) ≡ range_with_len a n
 filter_all_in p a zero all = refl
 filter_all_in p a (suc n) all =
-    rw (all a (omega arith) (omega arith)) (ap (λ xs. a ∷ xs) (filter_all_in p (a + 1) n (λ i low high. all i (omega arith) (omega arith))))
+    rw (all a (omega arith) (omega arith))
+    (ap (λ xs. a ∷ xs) (filter_all_in p (a + 1) n (λ i low high. all i (omega arith) (omega arith))))
 
 -- z is the first of the range that passes p, and q is p without z
-filter_first : (p q : ℕ → Bool) (z a n : ℕ) → a ≤ z → z < a + n → p z ≡ true → ((i : ℕ) → a ≤ i → i < z → p i ≡ false) → ((i : ℕ) → a ≤ i → i < a + n → q i ≡ (p i && not (i == z))) → filter p (range_with_len a n) ≡ z ∷ filter q (range_with_len a n)
+filter_first : (p q : ℕ → Bool) (z a n : ℕ) → a ≤ z → z < a + n → p z ≡ true → ((i : ℕ) → a ≤ i → i < z → p i ≡ false)
+    → ((i : ℕ) → a ≤ i → i < a + n → q i ≡ (p i && not (i == z))) → filter p (range_with_len a n) ≡ z ∷ filter q (range_with_len a n)
 filter_first p q z a zero low high one none without = absurd (omega arith)
 filter_first p q z a (suc n) low high one none without = ⊎_elim
     (λ same.
     let p_here : p a ≡ true = ap p same ∙ one in
     let q_here : q a ≡ false = let w = without a (omega arith) (omega arith) in grind (arith, nat_tests) in
     let rest : filter p (range_with_len (a + 1) n) ≡ filter q (range_with_len (a + 1) n) =
-    filter_agree_in p q (a + 1) n (λ i l h. let w = without i (omega arith) (omega arith) in let apart : i ≢ z = omega arith in grind (arith, nat_tests)) in
+    filter_agree_in p q (a + 1) n (λ i l h. let w = without i (omega arith) (omega arith) in let apart : i ≢ z = omega arith in
+    grind (arith, nat_tests)) in
     rw (p_here, q_here, rest, same) refl)
     (λ apart.
     let p_here : p a ≡ false = none a (omega arith) (omega arith) in
     let q_here : q a ≡ false = let w = without a (omega arith) (omega arith) in grind (arith, nat_tests) in
-    rw (p_here, q_here) (filter_first p q z (a + 1) n (omega arith) (omega arith) one (λ i l h. none i (omega arith) h) (λ i l h. without i (omega arith) (omega arith))))
+    rw (p_here, q_here) (filter_first p q z (a + 1) n (omega arith) (omega arith) one (λ i l h. none i (omega arith) h)
+    (λ i l h. without i (omega arith) (omega arith))))
     (cases_eq a z)
 
 -- z is the last of the range that passes p, and q is p without z
-filter_last : (p q : ℕ → Bool) (z a n : ℕ) → a ≤ z → z < a + n → p z ≡ true → ((i : ℕ) → z < i → i < a + n → p i ≡ false) → ((i : ℕ) → a ≤ i → i < a + n → q i ≡ (p i && not (i == z))) → filter p (range_with_len a n) ≡ filter q (range_with_len a n) ++ z ∷ []
+filter_last : (p q : ℕ → Bool) (z a n : ℕ) → a ≤ z → z < a + n → p z ≡ true → ((i : ℕ) → z < i → i < a + n → p i ≡ false)
+    → ((i : ℕ) → a ≤ i → i < a + n → q i ≡ (p i && not (i == z)))
+    → filter p (range_with_len a n) ≡ filter q (range_with_len a n) ++ z ∷ []
 filter_last p q z a zero low high one none without = absurd (omega arith)
 filter_last p q z a (suc n) low high one none without = ⊎_elim
     (λ same.
     let p_here : p a ≡ true = ap p same ∙ one in
     let q_here : q a ≡ false = let w = without a (omega arith) (omega arith) in grind (arith, nat_tests) in
     let p_rest : filter p (range_with_len (a + 1) n) ≡ [] = filter_none_in p (a + 1) n (λ i l h. none i (omega arith) (omega arith)) in
-    let q_rest : filter q (range_with_len (a + 1) n) ≡ [] = filter_none_in q (a + 1) n (λ i l h. let w = without i (omega arith) (omega arith) in let e = none i (omega arith) (omega arith) in grind (arith, nat_tests)) in
+    let q_rest : filter q (range_with_len (a + 1) n) ≡ [] =
+    filter_none_in q (a + 1) n (λ i l h. let w = without i (omega arith) (omega arith) in let e =
+    none i (omega arith) (omega arith) in grind (arith, nat_tests)) in
     rw (p_here, q_here, p_rest, q_rest, same) refl)
     (λ apart.
     let agree : q a ≡ p a = let w = without a (omega arith) (omega arith) in grind (arith, nat_tests) in
-    let rest : filter p (range_with_len (a + 1) n) ≡ filter q (range_with_len (a + 1) n) ++ z ∷ [] = filter_last p q z (a + 1) n (omega arith) (omega arith) one (λ i l h. none i l (omega arith)) (λ i l h. without i (omega arith) (omega arith)) in
-    rw (agree, rest) (elim (p a) as (λ b. cond b (a ∷ (filter q (range_with_len (a + 1) n) ++ z ∷ [])) (filter q (range_with_len (a + 1) n) ++ z ∷ []) ≡ cond b (a ∷ filter q (range_with_len (a + 1) n)) (filter q (range_with_len (a + 1) n)) ++ z ∷ []) [ true ↦ refl | false ↦ refl ]))
+    let rest : filter p (range_with_len (a + 1) n) ≡ filter q (range_with_len (a + 1) n) ++ z ∷ [] =
+    filter_last p q z (a + 1) n (omega arith) (omega arith) one (λ i l h. none i l (omega arith))
+    (λ i l h. without i (omega arith) (omega arith)) in
+    rw (agree, rest) (elim (p a) as
+    (λ b. cond b (a ∷ (filter q (range_with_len (a + 1) n) ++ z ∷ [])) (filter q (range_with_len (a + 1) n) ++ z ∷ []) ≡ cond b
+    (a ∷ filter q (range_with_len (a + 1) n)) (filter q (range_with_len (a + 1) n)) ++ z ∷ []) [ true ↦ refl | false ↦ refl ]))
     (cases_eq a z)
 
-any_cond : (b : Bool) (x q : ℕ) (xs : List ℕ) → list_any (λ y. nat_eq y q) (cond b (x ∷ xs) xs) ≡ ((b && nat_eq x q) || list_any (λ y. nat_eq y q) xs)
+any_cond : (b : Bool) (x q : ℕ) (xs : List ℕ)
+    → list_any (λ y. nat_eq y q) (cond b (x ∷ xs) xs) ≡ ((b && nat_eq x q) || list_any (λ y. nat_eq y q) xs)
 any_cond true x q xs = refl
 any_cond false x q xs = refl
 
@@ -88,11 +106,13 @@ any_in p q a (suc n) =
     (λ apart. in_range_past (p a) (p q) q a n apart)
     (cases_eq a q)
   where
-    in_range_here : (b : Bool) (q a n : ℕ) → a ≡ q → ((b && nat_eq a q) || (leb (a + 1) q && (ltb q (a + 1 + n) && b))) ≡ (leb a q && (ltb q (a + suc n) && b))
+    in_range_here : (b : Bool) (q a n : ℕ) → a ≡ q
+        → ((b && nat_eq a q) || (leb (a + 1) q && (ltb q (a + 1 + n) && b))) ≡ (leb a q && (ltb q (a + suc n) && b))
     in_range_here true q a n e = grind (arith, nat_tests)
     in_range_here false q a n e = grind (arith, nat_tests)
 
-    in_range_past : (b c : Bool) (q a n : ℕ) → a ≢ q → ((b && nat_eq a q) || (leb (a + 1) q && (ltb q (a + 1 + n) && c))) ≡ (leb a q && (ltb q (a + suc n) && c))
+    in_range_past : (b c : Bool) (q a n : ℕ) → a ≢ q
+        → ((b && nat_eq a q) || (leb (a + 1) q && (ltb q (a + 1 + n) && c))) ≡ (leb a q && (ltb q (a + suc n) && c))
     in_range_past true c q a n e = grind (arith, nat_tests)
     in_range_past false c q a n e = grind (arith, nat_tests)
 
@@ -118,7 +138,8 @@ contains_below w n k below = contains-set_of w n k ∙ grind (arith, nat_tests)
 pub set_of-insert : (w n m i : ℕ) → i < w → ((q : ℕ) → q < w → is_one m q ≡ (is_one n q || (q == i))) → set_of w m ≡ insert (set_of w n) i
 set_of-insert w n m i within digits =
     same_members w m (insert (set_of w n) i) (λ q.
-    let c : contains (insert (set_of w n) i) q ≡ (eq_by_cmp nat_cmp q i || contains (set_of w n) q) = contains-insert nat_cmp_total (set_of w n) i q in
+    let c : contains (insert (set_of w n) i) q ≡ (eq_by_cmp nat_cmp q i || contains (set_of w n) q) =
+    contains-insert nat_cmp_total (set_of w n) i q in
     let t : eq_by_cmp nat_cmp q i ≡ nat_eq q i = unsigned_tied q i in
     let old : contains (set_of w n) q ≡ (nat_lt q w && is_one n q) = contains-set_of w n q in
     ⊎_elim
@@ -130,7 +151,8 @@ set_of-insert w n m i within digits =
 pub set_of-remove : (w n m i : ℕ) → ((q : ℕ) → q < w → is_one m q ≡ (is_one n q && not (q == i))) → set_of w m ≡ remove (set_of w n) i
 set_of-remove w n m i digits =
     same_members w m (remove (set_of w n) i) (λ q.
-    let c : contains (remove (set_of w n) i) q ≡ (not (eq_by_cmp nat_cmp q i) && contains (set_of w n) q) = contains-remove nat_cmp_total (set_of w n) i q in
+    let c : contains (remove (set_of w n) i) q ≡ (not (eq_by_cmp nat_cmp q i) && contains (set_of w n) q) =
+    contains-remove nat_cmp_total (set_of w n) i q in
     let t : eq_by_cmp nat_cmp q i ≡ nat_eq q i = unsigned_tied q i in
     let old : contains (set_of w n) q ≡ (nat_lt q w && is_one n q) = contains-set_of w n q in
     ⊎_elim
@@ -181,7 +203,8 @@ rising-members_of w n =
     omega (arith, get_or-range_with_len 0 w k 0 (omega arith), get_or-range_with_len 0 w (k + 1) 0 (omega arith)))
 
 -- the numbers from lo to below hi
-pub members_of-range : (w n lo hi : ℕ) → lo ≤ hi → hi ≤ w → ((i : ℕ) → i < w → is_one n i ≡ (nat_lt i hi && not (nat_lt i lo))) → members_of w n ≡ range_with_len lo (hi - lo)
+pub members_of-range : (w n lo hi : ℕ) → lo ≤ hi → hi ≤ w → ((i : ℕ) → i < w → is_one n i ≡ (nat_lt i hi && not (nat_lt i lo)))
+    → members_of w n ≡ range_with_len lo (hi - lo)
 unfolding members_of
 members_of-range w n lo hi p q digits =
     let e : w ≡ lo + ((hi - lo) + (w - hi)) = omega arith in
@@ -189,11 +212,16 @@ members_of-range w n lo hi p q digits =
     let end : lo + (hi - lo) ≡ hi = omega arith in
     let cut : range_with_len 0 w ≡ range_with_len 0 lo ++ (range_with_len lo (hi - lo) ++ range_with_len hi (w - hi)) =
     ap (range_with_len 0) e ∙ range_append 0 lo _
-    ∙ ap (λ xs. range_with_len 0 lo ++ xs) (ap (λ a. range_with_len a ((hi - lo) + (w - hi))) start ∙ range_append lo (hi - lo) (w - hi) ∙ ap (λ a. range_with_len lo (hi - lo) ++ range_with_len a (w - hi)) end)
+    ∙ ap (λ xs. range_with_len 0 lo ++ xs)
+    (ap (λ a. range_with_len a ((hi - lo) + (w - hi))) start ∙ range_append lo (hi - lo) (w - hi)
+    ∙ ap (λ a. range_with_len lo (hi - lo) ++ range_with_len a (w - hi)) end)
     in
-    let low : filter (is_one n) (range_with_len 0 lo) ≡ [] = filter_none_in (is_one n) 0 lo (λ i _ h. let d = digits i (omega arith) in grind (arith, nat_tests)) in
-    let mid : filter (is_one n) (range_with_len lo (hi - lo)) ≡ range_with_len lo (hi - lo) = filter_all_in (is_one n) lo (hi - lo) (λ i l h. let d = digits i (omega arith) in grind (arith, nat_tests)) in
-    let high : filter (is_one n) (range_with_len hi (w - hi)) ≡ [] = filter_none_in (is_one n) hi (w - hi) (λ i l h. let d = digits i (omega arith) in grind (arith, nat_tests)) in
+    let low : filter (is_one n) (range_with_len 0 lo) ≡ [] =
+    filter_none_in (is_one n) 0 lo (λ i _ h. let d = digits i (omega arith) in grind (arith, nat_tests)) in
+    let mid : filter (is_one n) (range_with_len lo (hi - lo)) ≡ range_with_len lo (hi - lo) =
+    filter_all_in (is_one n) lo (hi - lo) (λ i l h. let d = digits i (omega arith) in grind (arith, nat_tests)) in
+    let high : filter (is_one n) (range_with_len hi (w - hi)) ≡ [] =
+    filter_none_in (is_one n) hi (w - hi) (λ i l h. let d = digits i (omega arith) in grind (arith, nat_tests)) in
     rw (cut, filter-append, filter-append, low, mid, high) (append-nil _)
 
 -- ---- the least and the greatest member
@@ -206,7 +234,8 @@ All-members_of P w n each = go 0 w (λ i low high one. each i (omega arith) one)
     go : (a m : ℕ) → ((i : ℕ) → a ≤ i → i < a + m → is_one n i ≡ true → P i) → All P (filter (is_one n) (range_with_len a m))
     go a zero each = All-nil P
     go a (suc m) each =
-        let rest : All P (filter (is_one n) (range_with_len (a + 1) m)) = go (a + 1) m (λ i low high one. each i (omega arith) (omega arith) one) in
+        let rest : All P (filter (is_one n) (range_with_len (a + 1) m)) =
+        go (a + 1) m (λ i low high one. each i (omega arith) (omega arith) one) in
         ⊎_elim
         (λ yes. rw yes (All-cons P a _ (each a (omega arith) (omega arith) yes) rest))
         (λ no. rw no rest)
@@ -232,8 +261,10 @@ count-members_of (suc w) n fits =
     filter_agree_in (is_one (n % 2 ^ w)) (is_one n) 0 w (λ i _ h. is_one-mod n w i (omega arith)) in
     let start : 0 + w ≡ w = omega arith in
     let pushed : filter (is_one n) (range_with_len 0 (suc w)) ≡ filter (is_one n) (range_with_len 0 w) ++ filter (is_one n) (w ∷ []) =
-    ap (filter (is_one n)) (range_push 0 w ∙ ap (λ k. range_with_len 0 w ++ k ∷ []) start) ∙ filter-append (is_one n) (range_with_len 0 w) (w ∷ []) in
-    let long : length (filter (is_one n) (range_with_len 0 (suc w))) ≡ length (filter (is_one n) (range_with_len 0 w)) + length (filter (is_one n) (w ∷ [])) =
+    ap (filter (is_one n)) (range_push 0 w ∙ ap (λ k. range_with_len 0 w ++ k ∷ []) start)
+    ∙ filter-append (is_one n) (range_with_len 0 w) (w ∷ []) in
+    let long : length (filter (is_one n) (range_with_len 0 (suc w))) ≡ length (filter (is_one n) (range_with_len 0 w)) + length
+    (filter (is_one n) (w ∷ [])) =
     ap length pushed ∙ length-append (filter (is_one n) (range_with_len 0 w)) (filter (is_one n) (w ∷ [])) in
     let below : ones (n % 2 ^ w) ≡ length (filter (is_one n) (range_with_len 0 w)) = rest ∙ ap length same in
     let top : ones (n / 2 ^ w) ≡ length (filter (is_one n) (w ∷ [])) = ⊎_elim
@@ -248,12 +279,15 @@ pub member : (w n k : ℕ) → k < w → is_one n k ≡ true → Contains (membe
 unfolding members_of
 member w n k within one =
     let start : 0 + w ≡ w = omega arith in
-    let any : list_any (λ y. nat_eq y k) (filter (is_one n) (range_with_len 0 w)) ≡ (leb 0 k && (ltb k (0 + w) && is_one n k)) = any_in (is_one n) k 0 w in
-    Contains-from_any {eq = λ x y. nat_eq y x} (λ x y e. grind (arith, nat_tests)) k (filter (is_one n) (range_with_len 0 w)) (grind (arith, nat_tests))
+    let any : list_any (λ y. nat_eq y k) (filter (is_one n) (range_with_len 0 w)) ≡ (leb 0 k && (ltb k (0 + w) && is_one n k)) =
+    any_in (is_one n) k 0 w in
+    Contains-from_any {eq = λ x y. nat_eq y x} (λ x y e. grind (arith, nat_tests)) k (filter (is_one n) (range_with_len 0 w))
+    (grind (arith, nat_tests))
 
 pub Contains-members_of : (w n k : ℕ) → (Contains (members_of w n) k ↔ ((k < w) × (is_one n k ≡ true)))
 Contains-members_of w n k = (
-  λ has. All-contains (λ i. (i < w) × (is_one n i ≡ true)) (members_of w n) k (All-members_of (λ i. (i < w) × (is_one n i ≡ true)) w n (λ i h one. (h, one))) has,
+  λ has. All-contains (λ i. (i < w) × (is_one n i ≡ true)) (members_of w n) k
+      (All-members_of (λ i. (i < w) × (is_one n i ≡ true)) w n (λ i h one. (h, one))) has,
   λ (h, one). member w n k h one,
 )
 
@@ -262,42 +296,55 @@ pub Contains-set_of : (w n k : ℕ) → (Contains (members_of w n) k ↔ (contai
 Contains-set_of w n k =
     let has = contains-set_of w n k in (
       λ listed. let at = (Contains-members_of w n k).0 listed in let below = at.0 in let one = at.1 in grind (arith, nat_tests),
-      λ holds. let at : (nat_lt k w && is_one n k) ≡ true = sym has ∙ holds in let parts = and_parts (nat_lt k w) (is_one n k) at in member w n k (ltb-true k w parts.0) parts.1,
+      λ holds. let at : (nat_lt k w && is_one n k) ≡ true = sym has ∙ holds in let parts = and_parts (nat_lt k w) (is_one n k) at in
+          member w n k (ltb-true k w parts.0) parts.1,
     )
 
 pub least_member : (w n z : ℕ) → IsLowZeros w n z → z < w → Contains (members_of w n) z × All (λ k. z ≤ k) (members_of w n)
-least_member w n z low within =
-    (member w n z within (low.one within), All-members_of (λ k. z ≤ k) w n (λ i h one. ⊎_elim (λ below. let none = low.zeros i below in absurd (cc)) (λ above. above) (cases_lt i z)))
+least_member w n z low within = (
+  member w n z within (low.one within),
+  All-members_of (λ k. z ≤ k) w n
+      (λ i h one. ⊎_elim (λ below. let none = low.zeros i below in absurd (cc)) (λ above. above) (cases_lt i z)),
+)
 
 pub greatest_member : (w n y z : ℕ) → IsHighZeros w n y → z + y + 1 ≡ w → Contains (members_of w n) z × All (λ k. k ≤ z) (members_of w n)
-greatest_member w n y z high at =
-    (member w n z (omega arith) (high.one z at), All-members_of (λ k. k ≤ z) w n (λ i h one. ⊎_elim (λ above. let none = high.zeros i (omega arith) h in absurd (cc)) (λ below. below) (cases_lt z i)))
+greatest_member w n y z high at = (
+  member w n z (omega arith) (high.one z at),
+  All-members_of (λ k. k ≤ z) w n
+      (λ i h one. ⊎_elim (λ above. let none = high.zeros i (omega arith) h in absurd (cc)) (λ below. below) (cases_lt z i)),
+)
 
 -- ---- one member taken out
 
 digit_without : (w n m x i : ℕ) → set_of w m ≡ remove (set_of w n) x → i < w → is_one m i ≡ (is_one n i && not (i == x))
 digit_without w n m x i taken below =
     let e : contains (set_of w m) i ≡ contains (remove (set_of w n) x) i = ap (λ t. contains t i) taken in
-    let c : contains (remove (set_of w n) x) i ≡ (not (eq_by_cmp nat_cmp i x) && contains (set_of w n) i) = contains-remove nat_cmp_total (set_of w n) x i in
+    let c : contains (remove (set_of w n) x) i ≡ (not (eq_by_cmp nat_cmp i x) && contains (set_of w n) i) =
+    contains-remove nat_cmp_total (set_of w n) x i in
     let t : eq_by_cmp nat_cmp i x ≡ nat_eq i x = unsigned_tied i x in
     let new = contains-set_of w m i in
     let old = contains-set_of w n i in
     grind (arith, nat_tests)
 
 -- the least member stood first
-pub members_of-first : (w n m x : ℕ) → Contains (members_of w n) x → All (λ k. x ≤ k) (members_of w n) → set_of w m ≡ remove (set_of w n) x → members_of w n ≡ x ∷ members_of w m
+pub members_of-first : (w n m x : ℕ) → Contains (members_of w n) x → All (λ k. x ≤ k) (members_of w n)
+    → set_of w m ≡ remove (set_of w n) x → members_of w n ≡ x ∷ members_of w m
 unfolding members_of
 members_of-first w n m x has least taken =
     let here = (Contains-members_of w n x).0 has in
     filter_first (is_one n) (is_one m) x 0 w (omega arith) (omega (arith, here.0)) here.1
-    (λ i _ before. false_from_ne_true (is_one n i) (λ one. let at : x ≤ i = All-contains (λ k. x ≤ k) (members_of w n) i least (member w n i (omega (arith, here.0)) one) in omega arith))
+    (λ i _ before. false_from_ne_true (is_one n i)
+    (λ one. let at : x ≤ i = All-contains (λ k. x ≤ k) (members_of w n) i least (member w n i (omega (arith, here.0)) one) in
+    omega arith))
     (λ i _ h. digit_without w n m x i taken (omega arith))
 
 -- the greatest member stood last
-pub members_of-last : (w n m x : ℕ) → Contains (members_of w n) x → All (λ k. k ≤ x) (members_of w n) → set_of w m ≡ remove (set_of w n) x → members_of w n ≡ members_of w m ++ x ∷ []
+pub members_of-last : (w n m x : ℕ) → Contains (members_of w n) x → All (λ k. k ≤ x) (members_of w n)
+    → set_of w m ≡ remove (set_of w n) x → members_of w n ≡ members_of w m ++ x ∷ []
 unfolding members_of
 members_of-last w n m x has greatest taken =
     let here = (Contains-members_of w n x).0 has in
     filter_last (is_one n) (is_one m) x 0 w (omega arith) (omega (arith, here.0)) here.1
-    (λ i after h. false_from_ne_true (is_one n i) (λ one. let at : i ≤ x = All-contains (λ k. k ≤ x) (members_of w n) i greatest (member w n i (omega arith) one) in omega arith))
+    (λ i after h. false_from_ne_true (is_one n i)
+    (λ one. let at : i ≤ x = All-contains (λ k. k ≤ x) (members_of w n) i greatest (member w n i (omega arith) one) in omega arith))
     (λ i _ h. digit_without w n m x i taken (omega arith))

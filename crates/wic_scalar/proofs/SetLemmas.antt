@@ -1,5 +1,6 @@
 -- What the calls of a set stand on, from the laws of its storage.
-use Rattle.std.proofs.Common.{⊎_elim, ◌≡◌, ℕ, ◌+◌, ◌-◌, ◌<◌, ◌≤◌, Bool, true, false, not, ◌&&◌, ◌||◌, cond, [], length, sym, ap, ◌∙◌, arith, ◌↔◌, IsTrue}
+use Rattle.std.proofs.Common.{⊎_elim, ◌≡◌, ℕ, ◌+◌, ◌-◌, ◌<◌, ◌≤◌, Bool, true, false, not, ◌&&◌, ◌||◌, cond, [], length, sym, ap, ◌∙◌}
+use Rattle.std.proofs.Common.{arith, ◌↔◌, IsTrue}
 use Rattle.std.specs.Prelude.{◌==◌, nat_lt, nat_eq}
 use Rattle.std.specs.List.{range_with_len}
 use Rattle.std.specs.Cmp.{nat_cmp_total}
@@ -10,7 +11,8 @@ use Rattle.std.specs.Cmp.Lexicographic.{pointwise, bytes_decides}
 use Rattle.wic_scalar.specs.Digits.{is_one, SameDigits, IsLowZeros, IsHighZeros}
 use Rattle.wic_scalar.specs.Scalar.{members_of, set_of}
 use Rattle.wic_scalar.proofs.SetFacts.{at_most_in, count_in, insert-remove, gone_after_remove, remove_absent}
-use Rattle.wic_scalar.proofs.MemberLemmas.{contains-set_of, set_of-insert, set_of-remove, members_of-none, none_from_members, members_of-range, members_of-same, same_from_members}
+use Rattle.wic_scalar.proofs.MemberLemmas.{contains-set_of, set_of-insert, set_of-remove, members_of-none, none_from_members}
+use Rattle.wic_scalar.proofs.MemberLemmas.{members_of-range, members_of-same, same_from_members}
 
 -- z is the number 0
 abbrev pub IsZero : ℕ → Type 0
@@ -30,7 +32,8 @@ is_empty_from_test w n z r zero' test = (
 )
 
 -- `n & b != 0`
-pub contains_from_test : (w n i b a z : ℕ) (r : Bool) → i < w → IsBit b i → ((k : ℕ) → is_one a k ≡ (is_one n k && is_one b k)) → IsZero z → (IsTrue r ↔ SameDigits w a z) → not r ≡ contains (set_of w n) i
+pub contains_from_test : (w n i b a z : ℕ) (r : Bool) → i < w → IsBit b i → ((k : ℕ) → is_one a k ≡ (is_one n k && is_one b k))
+    → IsZero z → (IsTrue r ↔ SameDigits w a z) → not r ≡ contains (set_of w n) i
 contains_from_test w n i b a z r within bit both zero' test =
     let has : contains (set_of w n) i ≡ (nat_lt i w && is_one n i) = contains-set_of w n i in
     let bit_i : is_one b i ≡ (i == i) = bit i in
@@ -50,28 +53,36 @@ contains_from_test w n i b a z r within bit both zero' test =
     (cases_Bool (is_one n i)))
     (cases_Bool r)
 
-pub insert_from_or : (w n m i b : ℕ) → i < w → IsBit b i → ((k : ℕ) → is_one m k ≡ (is_one n k || is_one b k)) → set_of w m ≡ insert (set_of w n) i
+pub insert_from_or : (w n m i b : ℕ) → i < w → IsBit b i → ((k : ℕ) → is_one m k ≡ (is_one n k || is_one b k))
+    → set_of w m ≡ insert (set_of w n) i
 insert_from_or w n m i b within bit either = set_of-insert w n m i within (λ k _. either k ∙ ap (λ x. is_one n k || x) (bit k))
 
 -- the digits of n without i
-pub without_from_and : (w n m i b c : ℕ) → IsBit b i → ((k : ℕ) → k < w → is_one c k ≡ not (is_one b k)) → ((k : ℕ) → is_one m k ≡ (is_one n k && is_one c k)) → (k : ℕ) → k < w → is_one m k ≡ (is_one n k && not (k == i))
+pub without_from_and : (w n m i b c : ℕ) → IsBit b i → ((k : ℕ) → k < w → is_one c k ≡ not (is_one b k))
+    → ((k : ℕ) → is_one m k ≡ (is_one n k && is_one c k)) → (k : ℕ) → k < w → is_one m k ≡ (is_one n k && not (k == i))
 without_from_and w n m i b c bit other both k h = both k ∙ ap (λ x. is_one n k && x) (other k h ∙ ap not (bit k))
 
-pub remove_from_and : (w n m i b c : ℕ) → IsBit b i → ((k : ℕ) → k < w → is_one c k ≡ not (is_one b k)) → ((k : ℕ) → is_one m k ≡ (is_one n k && is_one c k)) → set_of w m ≡ remove (set_of w n) i
+pub remove_from_and : (w n m i b c : ℕ) → IsBit b i → ((k : ℕ) → k < w → is_one c k ≡ not (is_one b k))
+    → ((k : ℕ) → is_one m k ≡ (is_one n k && is_one c k)) → set_of w m ≡ remove (set_of w n) i
 remove_from_and w n m i b c bit other both = set_of-remove w n m i (without_from_and w n m i b c bit other both)
 
-pub range_from_and : (w n lo hi a b c : ℕ) → lo ≤ hi → hi ≤ w → ((k : ℕ) → is_one a k ≡ nat_lt k hi) → ((k : ℕ) → is_one b k ≡ nat_lt k lo) → ((k : ℕ) → k < w → is_one c k ≡ not (is_one b k)) → ((k : ℕ) → is_one n k ≡ (is_one a k && is_one c k)) → members_of w n ≡ range_with_len lo (hi - lo)
+pub range_from_and : (w n lo hi a b c : ℕ) → lo ≤ hi → hi ≤ w → ((k : ℕ) → is_one a k ≡ nat_lt k hi)
+    → ((k : ℕ) → is_one b k ≡ nat_lt k lo) → ((k : ℕ) → k < w → is_one c k ≡ not (is_one b k))
+    → ((k : ℕ) → is_one n k ≡ (is_one a k && is_one c k)) → members_of w n ≡ range_with_len lo (hi - lo)
 range_from_and w n lo hi a b c p q high low other both =
-    members_of-range w n lo hi p q (λ k h. both k ∙ ap (λ x. x && is_one c k) (high k) ∙ ap (λ x. nat_lt k hi && x) (other k h ∙ ap not (low k)))
+    members_of-range w n lo hi p q
+    (λ k h. both k ∙ ap (λ x. x && is_one c k) (high k) ∙ ap (λ x. nat_lt k hi && x) (other k h ∙ ap not (low k)))
 
 -- where there is a member, fewer digits 0 than the width stand at either end
 pub low_below : (w n z : ℕ) (r : Bool) → IsLowZeros w n z → (IsTrue r ↔ (members_of w n ≡ [])) → r ≡ false → z < w
 low_below w n z r low test fails =
-    ⊎_elim (λ below. below) (λ above. absurd (iff_false test fails (members_of-none w n (λ k h. low.zeros k (omega arith))))) (cases_lt z w)
+    ⊎_elim (λ below. below) (λ above. absurd (iff_false test fails (members_of-none w n (λ k h. low.zeros k (omega arith)))))
+    (cases_lt z w)
 
 pub high_below : (w n z : ℕ) (r : Bool) → IsHighZeros w n z → (IsTrue r ↔ (members_of w n ≡ [])) → r ≡ false → z < w
 high_below w n z r high test fails =
-    ⊎_elim (λ below. below) (λ above. absurd (iff_false test fails (members_of-none w n (λ k h. high.zeros k (omega arith) h)))) (cases_lt z w)
+    ⊎_elim (λ below. below) (λ above. absurd (iff_false test fails (members_of-none w n (λ k h. high.zeros k (omega arith) h))))
+    (cases_lt z w)
 
 -- ---- equality
 
@@ -81,7 +92,8 @@ same_members_from_test w m n r test =
 
 pub eq_from_test : (w m n : ℕ) (r : Bool) → (IsTrue r ↔ SameDigits w m n) → r ≡ pointwise nat_eq (members_of w m) (members_of w n)
 eq_from_test w m n r test =
-    same_from_decides r (pointwise nat_eq (members_of w m) (members_of w n)) (same_members_from_test w m n r test) (bytes_decides (members_of w m) (members_of w n))
+    same_from_decides r (pointwise nat_eq (members_of w m) (members_of w n)) (same_members_from_test w m n r test)
+    (bytes_decides (members_of w m) (members_of w n))
 
 -- ---- how many members there are
 

@@ -6,9 +6,11 @@ use lib.Count.{ones, count_leading_zeros, count_trailing_zeros}
 use Rattle.wic_scalar.specs.Digits.{is_one, SameDigits, IsHighZeros}
 use Rattle.wic_scalar.specs.Scalar.{members_of}
 use Rattle.wic_scalar.proofs.MemberLemmas.{count-members_of}
-use Rattle.wic_scalar.proofs.DigitLemmas.{low_zeros, high_zeros, is_one-zero, is_one-bit_and, is_one-bit_or, is_one-pow, is_one-ones, is_one-complement, equal_digits, IsLowZeros-count, IsHighZeros-count}
+use Rattle.wic_scalar.proofs.DigitLemmas.{low_zeros, high_zeros, is_one-zero, is_one-bit_and, is_one-bit_or, is_one-pow, is_one-ones}
+use Rattle.wic_scalar.proofs.DigitLemmas.{is_one-complement, equal_digits, IsLowZeros-count, IsHighZeros-count}
 
--- what `1 << i`, `MAX >> (w - n)`, `!n`, `a == b` and the counts give at w digits. `x ≡ x` says nothing: it shows `grind` the count to match
+-- what `1 << i`, `MAX >> (w - n)`, `!n`, `a == b` and the counts give at w digits. `x ≡ x` says nothing: it shows `grind` the count to
+-- match
 pub record Laws (w : ℕ) : Type 0 where
   pub bit : (i k : ℕ) → i < w → is_one (1 * 2 ^ i % 2 ^ w) k ≡ (k == i)
   pub below : (n k : ℕ) → n ≤ w → is_one ((2 ^ w - 1) / 2 ^ (w - n)) k ≡ nat_lt k n
@@ -18,7 +20,15 @@ pub record Laws (w : ℕ) : Type 0 where
   pub count : (n : ℕ) → n < 2 ^ w → ones n ≡ length (members_of w n)
 
 laws : (w : ℕ) → Laws w
-laws w = record { bit = is_one-pow w; below = is_one-ones w; complement = is_one-complement w; equal = equal_digits w; high = high_zeros w; count = count-members_of w }
+laws w = record {
+  bit = is_one-pow w;
+  below = is_one-ones w;
+  complement = is_one-complement w;
+  equal = equal_digits w;
+  high =
+      high_zeros w;
+  count = count-members_of w;
+}
 
 -- those that hold at any width
 pub ruleset any_width = (is_one-zero, is_one-bit_and, is_one-bit_or, low_zeros, leading_le, trailing_le, ones-le)

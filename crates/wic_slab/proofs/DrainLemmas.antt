@@ -1,9 +1,11 @@
 -- What calls of `next` of a `Drain` give, and what they leave.
-use Rattle.std.proofs.Common.{◌≡◌, ◌⊎◌, ℕ, ◌+◌, ◌<◌, ◌≤◌, T, List, [], ◌∷◌, length, Some, None, refl, sym, ap, subst, ◌∙◌, inl, inr, arith, nat_cmp}
+use Rattle.std.proofs.Common.{◌≡◌, ◌⊎◌, ℕ, ◌+◌, ◌<◌, ◌≤◌, T, List, [], ◌∷◌, length, Some, None, refl, sym, ap, subst, ◌∙◌, inl, inr}
+use Rattle.std.proofs.Common.{arith, nat_cmp}
 use Rattle.std.proofs.lemmas.Bool.{cases_eq, cases_lt}
 use Rattle.std.proofs.iter.runs.Sources.{from_front, as_is}
 use Rattle.std.specs.Iterator.Runs.{YieldsInOrder}
-use Rattle.std.specs.FinMap.{FinMap, get, remove, find, is_sorted, entries, entries_sorted, from_sorted, entries-from_sorted, get-from_sorted, get-entries}
+use Rattle.std.specs.FinMap.{FinMap, get, remove, find, is_sorted, entries, entries_sorted, from_sorted, entries-from_sorted}
+use Rattle.std.specs.FinMap.{get-from_sorted, get-entries}
 use Rattle.std.specs.FinMap.Entries.{below_all}
 use Rattle.wic_slab.specs.Drain.{drain_pairs, DrainSteps, DrainKeeps, DrainKeepsAlong}
 use Rattle.wic_slab.specs.declared.drain.Drain.{Drain}
@@ -15,7 +17,8 @@ module _ {X : Type 0} where
   all_above : (bound : ℕ) (es : List (ℕ × X)) → ((q : ℕ) → q ≤ bound → find nat_cmp q es ≡ None) → T (below_all nat_cmp bound es)
   all_above bound [] none = tt
   all_above bound (e ∷ es) none =
-      both _ _ (less bound e.0 (elim (cases_lt bound e.0) [ inl below ↦ below | inr above ↦ absurd (here above) ])) (all_above bound es rest)
+      both _ _ (less bound e.0 (elim (cases_lt bound e.0) [ inl below ↦ below | inr above ↦ absurd (here above) ]))
+      (all_above bound es rest)
     where
       here : e.0 ≤ bound → ⊥
       here above =
@@ -31,7 +34,8 @@ module _ {X : Type 0} where
           ]
 
   -- the pair of the least id stands first
-  pub entries_first : (m : FinMap nat_cmp X) (id : ℕ) (value : X) → ((q : ℕ) → q < id → get m q ≡ None) → get m id ≡ Some value → entries m ≡ (id, value) ∷ entries (remove m id)
+  pub entries_first : (m : FinMap nat_cmp X) (id : ℕ) (value : X) → ((q : ℕ) → q < id → get m q ≡ None) → get m id ≡ Some value
+      → entries m ≡ (id, value) ∷ entries (remove m id)
   entries_first m id value none found =
       let rest = remove m id in
       let missed : (q : ℕ) → q ≤ id → find nat_cmp q (entries rest) ≡ None =
@@ -39,7 +43,8 @@ module _ {X : Type 0} where
         | inl same ↦ rw same (get-remove_same m id)
         | inr differs ↦ get-remove_other m id q differs ∙ none q (omega arith)
       ] in
-      let sorted : T (is_sorted nat_cmp ((id, value) ∷ entries rest)) = both _ _ (all_above id (entries rest) missed) (entries_sorted rest) in
+      let sorted : T (is_sorted nat_cmp ((id, value) ∷ entries rest)) =
+      both _ _ (all_above id (entries rest) missed) (entries_sorted rest) in
       let same : m ≡ from_sorted ((id, value) ∷ entries rest) =
       same_live _ _ (λ q. sym (get-from_sorted nat_cmp ((id, value) ∷ entries rest) q sorted ∙ at q)) in
       ap entries same ∙ entries-from_sorted nat_cmp _ sorted
@@ -70,14 +75,16 @@ module _ {X : Type 0} where
   entries_left live place end done outside =
       entries_none live (λ q. elim (cases_lt q place) [ inl below ↦ outside q (inl below) | inr above ↦ outside q (inr (omega arith)) ])
 
-  pub NoneOutside-past : (live : FinMap nat_cmp X) (place end : ℕ) → get live place ≡ None → NoneOutside live place end → NoneOutside live (place + 1) end
+  pub NoneOutside-past : (live : FinMap nat_cmp X) (place end : ℕ) → get live place ≡ None → NoneOutside live place end
+      → NoneOutside live (place + 1) end
   NoneOutside-past live place end none outside id where_it_is =
       elim (cases_eq id place) [
         | inl same ↦ ap (get live) same ∙ none
         | inr differs ↦ outside id (elim where_it_is [ inl below ↦ inl (omega arith) | inr above ↦ inr above ])
       ]
 
-  pub NoneOutside-removed : (live : FinMap nat_cmp X) (place end : ℕ) → NoneOutside live place end → NoneOutside (remove live place) (place + 1) end
+  pub NoneOutside-removed : (live : FinMap nat_cmp X) (place end : ℕ) → NoneOutside live place end
+      → NoneOutside (remove live place) (place + 1) end
   NoneOutside-removed live place end outside =
       NoneOutside-past (remove live place) place end (get-remove_same live place)
       (λ id where_it_is. elim (cases_eq id place) [

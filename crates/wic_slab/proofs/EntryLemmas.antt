@@ -1,5 +1,6 @@
 -- The entries as a map of live ids, and what a write of one entry changes in it.
-use Rattle.std.proofs.Common.{◌&&◌, ◌≡◌, ◌≢◌, ℕ, zero, suc, ◌+◌, ◌<◌, Bool, true, false, T, List, [], ◌∷◌, ◌++◌, length, get_or, set, Some, None, slice_get, inl, inr, refl, sym, ap, ◌∙◌, arith, nat_cmp}
+use Rattle.std.proofs.Common.{◌&&◌, ◌≡◌, ◌≢◌, ℕ, zero, suc, ◌+◌, ◌<◌, Bool, true, false, T, List, [], ◌∷◌, ◌++◌, length, get_or, set}
+use Rattle.std.proofs.Common.{Some, None, slice_get, inl, inr, refl, sym, ap, ◌∙◌, arith, nat_cmp}
 use Rattle.std.proofs.lemmas.Bool.{cases_eq}
 use Rattle.std.proofs.lemmas.Bool.Decides.{nat_tests}
 use Rattle.std.proofs.lemmas.List.{get_or-set_same, get_or-set_other}
@@ -10,7 +11,8 @@ use Rattle.std.specs.FinMap.Entries.{below_all}
 use Rattle.wic_slab.specs.declared.slab.Entry.{Entry}
 use Rattle.wic_slab.specs.declared.slab.Entry.TheVariants.{Vacant, Occupied}
 use Rattle.wic_slab.specs.Entry.{value_of, pairs_from, live_of}
-use Rattle.wic_slab.proofs.LiveLemmas.{tied_same, tied_other, get-insert_same, get-insert_other, get-remove_same, get-remove_other, same_live}
+use Rattle.wic_slab.proofs.LiveLemmas.{tied_same, tied_other, get-insert_same, get-insert_other, get-remove_same, get-remove_other}
+use Rattle.wic_slab.proofs.LiveLemmas.{same_live}
 
 pub true_from_T : (b : Bool) → T b → b ≡ true
 true_from_T true p = refl
@@ -26,7 +28,8 @@ less a b below = grind (arith, nat_tests)
 module _ {X : Type 0} where
   below_pairs : (bound place : ℕ) (es : List (Entry X)) → bound < place → T (below_all nat_cmp bound (pairs_from place es))
   below_pairs bound place [] below = tt
-  below_pairs bound place (Occupied value ∷ rest) below = both _ _ (less bound place below) (below_pairs bound (place + 1) rest (omega arith))
+  below_pairs bound place (Occupied value ∷ rest) below =
+      both _ _ (less bound place below) (below_pairs bound (place + 1) rest (omega arith))
   below_pairs bound place (Vacant next ∷ rest) below = below_pairs bound (place + 1) rest (omega arith)
 
   pub sorted_pairs : (place : ℕ) (es : List (Entry X)) → T (is_sorted nat_cmp (pairs_from place es))
@@ -39,10 +42,12 @@ module _ {X : Type 0} where
 
   find_early : (q place : ℕ) (es : List (Entry X)) → q < place → find nat_cmp q (pairs_from place es) ≡ None
   find_early q place [] early = refl
-  find_early q place (Occupied value ∷ rest) early = rw (tied_other q place (λ same. omega arith)) (find_early q (place + 1) rest (omega arith))
+  find_early q place (Occupied value ∷ rest) early =
+      rw (tied_other q place (λ same. omega arith)) (find_early q (place + 1) rest (omega arith))
   find_early q place (Vacant next ∷ rest) early = find_early q (place + 1) rest (omega arith)
 
-  find_pairs : (place i q : ℕ) (es : List (Entry X)) → q ≡ place + i → find nat_cmp q (pairs_from place es) ≡ value_of (get_or es i (Vacant 0))
+  find_pairs : (place i q : ℕ) (es : List (Entry X)) → q ≡ place + i
+      → find nat_cmp q (pairs_from place es) ≡ value_of (get_or es i (Vacant 0))
   find_pairs place i q [] at = refl
   find_pairs place zero q (Occupied value ∷ rest) at =
       let here : q ≡ place = omega arith in
@@ -56,20 +61,25 @@ module _ {X : Type 0} where
   pub get-live_of : (es : List (Entry X)) (q : ℕ) → get (live_of es) q ≡ value_of (get_or es q (Vacant 0))
   get-live_of es q = get-from_sorted nat_cmp (pairs_from 0 es) q (sorted_pairs 0 es) ∙ find_pairs 0 q q es (omega arith)
 
-  pub live_of-occupied : (es : List (Entry X)) (k : ℕ) (value : X) → k < length es → live_of (set es k (Occupied value)) ≡ insert (live_of es) k value
+  pub live_of-occupied : (es : List (Entry X)) (k : ℕ) (value : X) → k < length es
+      → live_of (set es k (Occupied value)) ≡ insert (live_of es) k value
   live_of-occupied es k value within =
       same_live _ _
       (λ q. elim (cases_eq q k) [
-        | inl same ↦ rw same (get-live_of _ k ∙ ap value_of (get_or-set_same es k (Occupied value) (Vacant 0) within) ∙ sym (get-insert_same (live_of es) k value))
-        | inr differs ↦ get-live_of _ q ∙ ap value_of (get_or-set_other es k q (Occupied value) (Vacant 0) differs) ∙ sym (get-live_of es q) ∙ sym (get-insert_other (live_of es) k value q differs)
+        | inl same ↦ rw same (get-live_of _ k ∙ ap value_of (get_or-set_same es k (Occupied value) (Vacant 0) within)
+            ∙ sym (get-insert_same (live_of es) k value))
+        | inr differs ↦ get-live_of _ q ∙ ap value_of (get_or-set_other es k q (Occupied value) (Vacant 0) differs)
+            ∙ sym (get-live_of es q) ∙ sym (get-insert_other (live_of es) k value q differs)
       ])
 
   pub live_of-vacant : (es : List (Entry X)) (k next : ℕ) → k < length es → live_of (set es k (Vacant next)) ≡ remove (live_of es) k
   live_of-vacant es k next within =
       same_live _ _
       (λ q. elim (cases_eq q k) [
-        | inl same ↦ rw same (get-live_of _ k ∙ ap value_of (get_or-set_same es k (Vacant next) (Vacant 0) within) ∙ sym (get-remove_same (live_of es) k))
-        | inr differs ↦ get-live_of _ q ∙ ap value_of (get_or-set_other es k q (Vacant next) (Vacant 0) differs) ∙ sym (get-live_of es q) ∙ sym (get-remove_other (live_of es) k q differs)
+        | inl same ↦ rw same (get-live_of _ k ∙ ap value_of (get_or-set_same es k (Vacant next) (Vacant 0) within)
+            ∙ sym (get-remove_same (live_of es) k))
+        | inr differs ↦ get-live_of _ q ∙ ap value_of (get_or-set_other es k q (Vacant next) (Vacant 0) differs) ∙ sym (get-live_of es q)
+            ∙ sym (get-remove_other (live_of es) k q differs)
       ])
 
   get_or-push_last : (es : List (Entry X)) (e d : Entry X) → get_or (es ++ e ∷ []) (length es) d ≡ e
@@ -86,11 +96,14 @@ module _ {X : Type 0} where
   live_of-push es value =
       same_live _ _
       (λ q. elim (cases_eq q (length es)) [
-        | inl same ↦ rw same (get-live_of _ (length es) ∙ ap value_of (get_or-push_last es (Occupied value) (Vacant 0)) ∙ sym (get-insert_same (live_of es) (length es) value))
-        | inr differs ↦ get-live_of _ q ∙ ap value_of (get_or-push_other es (Occupied value) (Vacant 0) q differs) ∙ sym (get-live_of es q) ∙ sym (get-insert_other (live_of es) (length es) value q differs)
+        | inl same ↦ rw same (get-live_of _ (length es) ∙ ap value_of (get_or-push_last es (Occupied value) (Vacant 0))
+            ∙ sym (get-insert_same (live_of es) (length es) value))
+        | inr differs ↦ get-live_of _ q ∙ ap value_of (get_or-push_other es (Occupied value) (Vacant 0) q differs)
+            ∙ sym (get-live_of es q) ∙ sym (get-insert_other (live_of es) (length es) value q differs)
       ])
 
-  occupied_from_value : (es : List (Entry X)) (k : ℕ) (value : X) → value_of (get_or es k (Vacant 0)) ≡ Some value → slice_get es k ≡ Some (Occupied value)
+  occupied_from_value : (es : List (Entry X)) (k : ℕ) (value : X) → value_of (get_or es k (Vacant 0)) ≡ Some value
+      → slice_get es k ≡ Some (Occupied value)
   occupied_from_value [] k value is = absurd (cc)
   occupied_from_value (Occupied other ∷ rest) zero value is = cc
   occupied_from_value (Vacant next ∷ rest) zero value is = absurd (cc)

@@ -1,10 +1,12 @@
 -- Maps of live ids: what reads find after a write and a removal, and what these undo.
-use Rattle.std.proofs.Common.{ap, true≢false, zero, suc, ◌<◌, ◌≡◌, ◌≢◌, ◌+◌, ◌-◌, ℕ, true, false, Option, Some, None, is_some, inl, inr, refl, sym, ◌∙◌, arith, nat_cmp}
+use Rattle.std.proofs.Common.{ap, true≢false, zero, suc, ◌<◌, ◌≡◌, ◌≢◌, ◌+◌, ◌-◌, ℕ, true, false, Option, Some, None, is_some, inl, inr}
+use Rattle.std.proofs.Common.{refl, sym, ◌∙◌, arith, nat_cmp}
 use Rattle.std.proofs.lemmas.Bool.{cases_eq}
 use Rattle.std.proofs.lemmas.Bool.Decides.{nat_tests}
 use Rattle.std.specs.Ordering.{eq_by_cmp}
 use Rattle.std.specs.Cmp.{nat_cmp_total}
-use Rattle.std.specs.FinMap.{FinMap, get, insert, remove, contains_key, len, get-insert, get-remove, len-insert, len-remove, same_map, nat_cmp-IsAntisymmetric, empty_of_len, get-empty}
+use Rattle.std.specs.FinMap.{FinMap, get, insert, remove, contains_key, len, get-insert, get-remove, len-insert, len-remove, same_map}
+use Rattle.std.specs.FinMap.{nat_cmp-IsAntisymmetric, empty_of_len, get-empty}
 
 pub tied_same : (k : ℕ) → eq_by_cmp nat_cmp k k ≡ true
 tied_same k = grind (arith, nat_tests)
@@ -84,7 +86,8 @@ module _ {T : Type 0} where
       by_len zero none = absurd (true≢false (sym live ∙ ap is_some (ap (λ x. get x k) (empty_of_len m none) ∙ get-empty nat_cmp k)))
       by_len (suc n) some = omega arith
 
-  pub contains_key-insert_again : (m : FinMap nat_cmp T) (k : ℕ) (v : T) (q : ℕ) → contains_key m k ≡ true → contains_key (insert m k v) q ≡ contains_key m q
+  pub contains_key-insert_again : (m : FinMap nat_cmp T) (k : ℕ) (v : T) (q : ℕ) → contains_key m k ≡ true
+      → contains_key (insert m k v) q ≡ contains_key m q
   contains_key-insert_again m k v q live =
       elim (cases_eq q k) [
         | inl same ↦ rw same (ap is_some (get-insert_same m k v) ∙ sym live)

@@ -1,10 +1,12 @@
 -- How taking the next id and giving one back change the order.
-use Rattle.std.proofs.Common.{max, length, ◌-◌, ◌≡◌, ◌≢◌, ℕ, ◌+◌, ◌<◌, ◌≤◌, Bool, true, false, cond, not, ◌&&◌, ◌||◌, List, [], ◌∷◌, nat_eq, nat_lt, is_some, inl, inr, refl, sym, ap, ◌∙◌, arith, nat_cmp}
+use Rattle.std.proofs.Common.{max, length, ◌-◌, ◌≡◌, ◌≢◌, ℕ, ◌+◌, ◌<◌, ◌≤◌, Bool, true, false, cond, not, ◌&&◌, ◌||◌, List, [], ◌∷◌}
+use Rattle.std.proofs.Common.{nat_eq, nat_lt, is_some, inl, inr, refl, sym, ap, ◌∙◌, arith, nat_cmp}
 use Rattle.std.proofs.lemmas.Bool.{cases_eq}
 use Rattle.std.proofs.lemmas.Bool.Decides.{nat_tests}
 use Rattle.std.specs.List.{AllByRecursion, IsDistinct, list_any}
 use Rattle.std.specs.FinMap.{FinMap, insert, remove, contains_key}
-use Rattle.wic_slab.specs.Order.{Order, max_capacity, from_zero, next_id, take_from, take_next, give_to, give_back, last_or, is_vacant, IsOrder, BelongsTo}
+use Rattle.wic_slab.specs.Order.{Order, max_capacity, from_zero, next_id, take_from, take_next, give_to, give_back, last_or, is_vacant}
+use Rattle.wic_slab.specs.Order.{IsOrder, BelongsTo}
 use Rattle.wic_slab.proofs.LiveLemmas.{get-insert_same, get-insert_other, get-remove_same, get-remove_other}
 
 pub nat_eq_same : (k : ℕ) → nat_eq k k ≡ true
@@ -56,17 +58,20 @@ all_from_not_any id [] none = tt
 all_from_not_any id (other ∷ ids) none = (neither (nat_eq id other) _ none, all_from_not_any id ids (nor (nat_eq id other) _ none))
 
 -- a number that each of a list is below is none of them
-not_any_above : (bound id : ℕ) (ids : List ℕ) → bound ≤ id → AllByRecursion (λ other. other < bound) ids → list_any (nat_eq id) ids ≡ false
+not_any_above : (bound id : ℕ) (ids : List ℕ) → bound ≤ id → AllByRecursion (λ other. other < bound) ids
+    → list_any (nat_eq id) ids ≡ false
 not_any_above bound id [] above all = refl
 not_any_above bound id (other ∷ ids) above all =
     rw (nat_eq_other id other (λ same. omega (arith, all.0))) (not_any_above bound id ids above all.1)
 
-all_below_more : (bound more : ℕ) (ids : List ℕ) → bound ≤ more → AllByRecursion (λ id. id < bound) ids → AllByRecursion (λ id. id < more) ids
+all_below_more : (bound more : ℕ) (ids : List ℕ) → bound ≤ more → AllByRecursion (λ id. id < bound) ids
+    → AllByRecursion (λ id. id < more) ids
 all_below_more bound more [] within all = tt
 all_below_more bound more (id ∷ ids) within all = (omega (arith, all.0), all_below_more bound more ids within all.1)
 
 -- what is given back to the front is what the next id was
-give_to-take_from : (vacant : List ℕ) (fresh : ℕ) → last_or fresh vacant + 1 ≢ fresh → give_back (take_from vacant fresh) (next_id (record { vacant = vacant; fresh = fresh })) ≡ record { vacant = vacant; fresh = fresh }
+give_to-take_from : (vacant : List ℕ) (fresh : ℕ) → last_or fresh vacant + 1 ≢ fresh
+    → give_back (take_from vacant fresh) (next_id (record { vacant = vacant; fresh = fresh })) ≡ record { vacant = vacant; fresh = fresh }
 give_to-take_from [] fresh apart = rw (nat_eq_same (fresh + 1))
 give_to-take_from (id ∷ []) fresh apart = rw (nat_eq_other (id + 1) fresh apart)
 give_to-take_from (id ∷ next ∷ vacant) fresh apart = refl
@@ -75,7 +80,9 @@ pub give_back-take_next : (o : Order) → IsOrder o → give_back (take_next o) 
 give_back-take_next o valid = give_to-take_from o.vacant o.fresh valid.last_apart
 
 next_id-give_to : (vacant : List ℕ) (fresh id : ℕ) → next_id (give_to vacant fresh id) ≡ id
-next_id-give_to [] fresh id = elim (nat_eq (id + 1) fresh) as (λ b. next_id (cond b (record { vacant = []; fresh = id }) (record { vacant = id ∷ []; fresh = fresh })) ≡ id) [ true ↦ refl | false ↦ refl ]
+next_id-give_to [] fresh id = elim (nat_eq (id + 1) fresh) as
+    (λ b. next_id (cond b (record { vacant = []; fresh = id }) (record { vacant = id ∷ []; fresh = fresh })) ≡ id)
+    [ true ↦ refl | false ↦ refl ]
 next_id-give_to (next ∷ vacant) fresh id = refl
 
 pub next_id-give_back : (o : Order) (id : ℕ) → next_id (give_back o id) ≡ id
@@ -92,7 +99,9 @@ take_next-give_to (next ∷ vacant) fresh id = refl
 pub take_next-give_back : (o : Order) (id : ℕ) → take_next (give_back o id) ≡ o
 take_next-give_back o id = take_next-give_to o.vacant o.fresh id
 
-next_is_vacant_by : (vacant : List ℕ) (fresh : ℕ) → (nat_lt (next_id (record { vacant = vacant; fresh = fresh })) fresh && not (list_any (nat_eq (next_id (record { vacant = vacant; fresh = fresh }))) vacant)) ≡ false
+next_is_vacant_by : (vacant : List ℕ) (fresh : ℕ)
+    → (nat_lt (next_id (record { vacant = vacant; fresh = fresh })) fresh && not
+    (list_any (nat_eq (next_id (record { vacant = vacant; fresh = fresh }))) vacant)) ≡ false
 next_is_vacant_by [] fresh = rw (nat_lt_false fresh fresh (omega arith))
 next_is_vacant_by (id ∷ ids) fresh = rw (nat_eq_same id) (and-false _)
 
@@ -106,7 +115,8 @@ module _ {T : Type 0} where
   live_below o live id belongs found = below_from_test _ _ (first_of _ _ (sym (belongs id) ∙ found))
 
   -- a live id isn't vacant
-  pub live_not_vacant : (o : Order) (live : FinMap nat_cmp T) (id : ℕ) → BelongsTo o live → contains_key live id ≡ true → is_vacant o id ≡ false
+  pub live_not_vacant : (o : Order) (live : FinMap nat_cmp T) (id : ℕ) → BelongsTo o live → contains_key live id ≡ true
+      → is_vacant o id ≡ false
   live_not_vacant o live id belongs found = second_of _ _ (sym (belongs id) ∙ found)
 
 distinct_first : (id : ℕ) (ids : List ℕ) → IsDistinct nat_eq (id ∷ ids) → list_any (nat_eq id) ids ≡ false
@@ -129,7 +139,8 @@ last_of_rest : (otherwise id : ℕ) (ids : List ℕ) → last_or id ids + 1 ≢ 
 last_of_rest otherwise id [] apart = λ same. omega arith
 last_of_rest otherwise id (next ∷ ids) apart = apart
 
-is_order_taken : (vacant : List ℕ) (fresh : ℕ) → IsOrder (record { vacant = vacant; fresh = fresh }) → next_id (record { vacant = vacant; fresh = fresh }) < max_capacity → IsOrder (take_from vacant fresh)
+is_order_taken : (vacant : List ℕ) (fresh : ℕ) → IsOrder (record { vacant = vacant; fresh = fresh })
+    → next_id (record { vacant = vacant; fresh = fresh }) < max_capacity → IsOrder (take_from vacant fresh)
 is_order_taken [] fresh valid room =
     record { distinct = distinct_none; below = tt; last_apart = λ same. omega arith; at_most = omega arith }
 is_order_taken (id ∷ ids) fresh valid room =
@@ -143,11 +154,20 @@ is_order_taken (id ∷ ids) fresh valid room =
 pub IsOrder-take_next : (o : Order) → IsOrder o → next_id o < max_capacity → IsOrder (take_next o)
 IsOrder-take_next o valid room = is_order_taken o.vacant o.fresh valid room
 
-is_order_given : (vacant : List ℕ) (fresh id : ℕ) → IsOrder (record { vacant = vacant; fresh = fresh }) → id < fresh → list_any (nat_eq id) vacant ≡ false → IsOrder (give_to vacant fresh id)
+is_order_given : (vacant : List ℕ) (fresh id : ℕ) → IsOrder (record { vacant = vacant; fresh = fresh }) → id < fresh
+    → list_any (nat_eq id) vacant ≡ false → IsOrder (give_to vacant fresh id)
 is_order_given [] fresh id valid below apart =
     elim (cases_eq (id + 1) fresh) [
-      | inl same ↦ rw (same, nat_eq_same fresh) (record { distinct = distinct_none; below = tt; last_apart = λ e. omega arith; at_most = omega (arith, valid.at_most) })
-      | inr differs ↦ rw (nat_eq_other (id + 1) fresh differs) (record { distinct = distinct_more id [] refl distinct_none; below = (below, tt); last_apart = differs; at_most = valid.at_most })
+      | inl same ↦ rw (same, nat_eq_same fresh)
+          (record { distinct = distinct_none; below = tt; last_apart = λ e. omega arith; at_most = omega (arith, valid.at_most) })
+      | inr differs ↦ rw (nat_eq_other (id + 1) fresh differs)
+          (record {
+            distinct = distinct_more id [] refl distinct_none;
+            below = (below, tt);
+            last_apart = differs;
+            at_most =
+                valid.at_most;
+          })
     ]
 is_order_given (next ∷ ids) fresh id valid below apart =
     record {
@@ -164,11 +184,13 @@ IsOrder-give_back o id valid below apart = is_order_given o.vacant o.fresh id va
 abbrev live_by : List ℕ → ℕ → ℕ → Bool
 live_by vacant fresh id = nat_lt id fresh && not (list_any (nat_eq id) vacant)
 
-taken_is_live : (vacant : List ℕ) (fresh : ℕ) → IsOrder (record { vacant = vacant; fresh = fresh }) → let o = take_from vacant fresh in live_by o.vacant o.fresh (next_id (record { vacant = vacant; fresh = fresh })) ≡ true
+taken_is_live : (vacant : List ℕ) (fresh : ℕ) → IsOrder (record { vacant = vacant; fresh = fresh }) → let o = take_from vacant fresh in
+    live_by o.vacant o.fresh (next_id (record { vacant = vacant; fresh = fresh })) ≡ true
 taken_is_live [] fresh valid = rw (nat_lt_true fresh (fresh + 1) (omega arith))
 taken_is_live (id ∷ ids) fresh valid = rw (nat_lt_true id fresh valid.below.0, distinct_first id ids valid.distinct)
 
-others_taken : (vacant : List ℕ) (fresh q : ℕ) → q ≢ next_id (record { vacant = vacant; fresh = fresh }) → let o = take_from vacant fresh in live_by o.vacant o.fresh q ≡ live_by vacant fresh q
+others_taken : (vacant : List ℕ) (fresh q : ℕ) → q ≢ next_id (record { vacant = vacant; fresh = fresh }) → let o =
+    take_from vacant fresh in live_by o.vacant o.fresh q ≡ live_by vacant fresh q
 others_taken [] fresh q differs = rw (nat_lt_alike q (fresh + 1) q fresh (λ h. omega arith) (λ h. omega arith))
 others_taken (id ∷ ids) fresh q differs = rw (nat_eq_other q id differs)
 
@@ -180,7 +202,8 @@ given_not_live [] fresh id =
     ]
 given_not_live (next ∷ ids) fresh id = rw (nat_eq_same id) (and-false _)
 
-others_given : (vacant : List ℕ) (fresh id q : ℕ) → q ≢ id → let o = give_to vacant fresh id in live_by o.vacant o.fresh q ≡ live_by vacant fresh q
+others_given : (vacant : List ℕ) (fresh id q : ℕ) → q ≢ id → let o = give_to vacant fresh id in
+    live_by o.vacant o.fresh q ≡ live_by vacant fresh q
 others_given [] fresh id q differs =
     elim (cases_eq (id + 1) fresh) [
       | inl same ↦ rw (same, nat_eq_same fresh, nat_lt_alike q id q fresh (λ h. omega arith) (λ h. omega arith))
@@ -189,14 +212,17 @@ others_given [] fresh id q differs =
 others_given (next ∷ ids) fresh id q differs = rw (nat_eq_other q id differs)
 
 module _ {T : Type 0} where
-  pub BelongsTo-take_next : (o : Order) (live : FinMap nat_cmp T) (value : T) → IsOrder o → BelongsTo o live → BelongsTo (take_next o) (insert live (next_id o) value)
+  pub BelongsTo-take_next : (o : Order) (live : FinMap nat_cmp T) (value : T) → IsOrder o → BelongsTo o live
+      → BelongsTo (take_next o) (insert live (next_id o) value)
   BelongsTo-take_next o live value valid belongs q =
       elim (cases_eq q (next_id o)) [
         | inl same ↦ rw same (ap is_some (get-insert_same live (next_id o) value) ∙ sym (taken_is_live o.vacant o.fresh valid))
-        | inr differs ↦ ap is_some (get-insert_other live (next_id o) value q differs) ∙ belongs q ∙ sym (others_taken o.vacant o.fresh q differs)
+        | inr differs ↦ ap is_some (get-insert_other live (next_id o) value q differs) ∙ belongs q
+            ∙ sym (others_taken o.vacant o.fresh q differs)
       ]
 
-  pub BelongsTo-give_back : (o : Order) (live : FinMap nat_cmp T) (id : ℕ) → BelongsTo o live → BelongsTo (give_back o id) (remove live id)
+  pub BelongsTo-give_back : (o : Order) (live : FinMap nat_cmp T) (id : ℕ) → BelongsTo o live
+      → BelongsTo (give_back o id) (remove live id)
   BelongsTo-give_back o live id belongs q =
       elim (cases_eq q id) [
         | inl same ↦ rw same (ap is_some (get-remove_same live id) ∙ sym (given_not_live o.vacant o.fresh id))
@@ -210,21 +236,25 @@ taken_not_vacant o valid = second_of _ _ (taken_is_live o.vacant o.fresh valid)
 pub taken_below_fresh : (o : Order) → IsOrder o → next_id o < (take_next o).fresh
 taken_below_fresh o valid = below_from_test _ _ (first_of _ _ (taken_is_live o.vacant o.fresh valid))
 
-fresh_taken_by : (vacant : List ℕ) (fresh : ℕ) → AllByRecursion (λ id. id < fresh) vacant → (take_from vacant fresh).fresh ≡ max fresh (next_id (record { vacant = vacant; fresh = fresh }) + 1)
+fresh_taken_by : (vacant : List ℕ) (fresh : ℕ) → AllByRecursion (λ id. id < fresh) vacant
+    → (take_from vacant fresh).fresh ≡ max fresh (next_id (record { vacant = vacant; fresh = fresh }) + 1)
 fresh_taken_by [] fresh below = omega arith
 fresh_taken_by (id ∷ ids) fresh below = omega (arith, below.0)
 
 pub fresh_taken : (o : Order) → IsOrder o → (take_next o).fresh ≡ max o.fresh (next_id o + 1)
 fresh_taken o valid = fresh_taken_by o.vacant o.fresh valid.below
 
-total_taken_by : (vacant : List ℕ) (fresh count : ℕ) → count + length vacant ≡ fresh → count + 1 + length (take_from vacant fresh).vacant ≡ (take_from vacant fresh).fresh
+total_taken_by : (vacant : List ℕ) (fresh count : ℕ) → count + length vacant ≡ fresh
+    → count + 1 + length (take_from vacant fresh).vacant ≡ (take_from vacant fresh).fresh
 total_taken_by [] fresh count total = omega arith
 total_taken_by (id ∷ ids) fresh count total = omega arith
 
-pub total_taken : (o : Order) (count : ℕ) → count + length o.vacant ≡ o.fresh → count + 1 + length (take_next o).vacant ≡ (take_next o).fresh
+pub total_taken : (o : Order) (count : ℕ) → count + length o.vacant ≡ o.fresh
+    → count + 1 + length (take_next o).vacant ≡ (take_next o).fresh
 total_taken o count total = total_taken_by o.vacant o.fresh count total
 
-total_given_by : (vacant : List ℕ) (fresh count id : ℕ) → 0 < count → count + length vacant ≡ fresh → count - 1 + length (give_to vacant fresh id).vacant ≡ (give_to vacant fresh id).fresh
+total_given_by : (vacant : List ℕ) (fresh count id : ℕ) → 0 < count → count + length vacant ≡ fresh
+    → count - 1 + length (give_to vacant fresh id).vacant ≡ (give_to vacant fresh id).fresh
 total_given_by [] fresh count id some total =
     elim (cases_eq (id + 1) fresh) [
       | inl same ↦ rw (same, nat_eq_same fresh) (omega arith)
@@ -232,10 +262,12 @@ total_given_by [] fresh count id some total =
     ]
 total_given_by (next ∷ ids) fresh count id some total = omega arith
 
-pub total_given : (o : Order) (count id : ℕ) → 0 < count → count + length o.vacant ≡ o.fresh → count - 1 + length (give_back o id).vacant ≡ (give_back o id).fresh
+pub total_given : (o : Order) (count id : ℕ) → 0 < count → count + length o.vacant ≡ o.fresh
+    → count - 1 + length (give_back o id).vacant ≡ (give_back o id).fresh
 total_given o count id some total = total_given_by o.vacant o.fresh count id some total
 
-fresh_given_by : (vacant : List ℕ) (fresh count id : ℕ) → count + length vacant ≡ fresh → (give_to vacant fresh id).fresh ≡ cond (nat_eq count fresh && nat_eq (id + 1) fresh) id fresh
+fresh_given_by : (vacant : List ℕ) (fresh count id : ℕ) → count + length vacant ≡ fresh
+    → (give_to vacant fresh id).fresh ≡ cond (nat_eq count fresh && nat_eq (id + 1) fresh) id fresh
 fresh_given_by [] fresh count id total =
     let full : count ≡ fresh = omega arith in
     elim (cases_eq (id + 1) fresh) [
@@ -245,7 +277,8 @@ fresh_given_by [] fresh count id total =
 fresh_given_by (next ∷ ids) fresh count id total = rw (nat_eq_other count fresh (λ same. omega arith))
 
 -- the first fresh id falls only where no id below it is vacant, and then the live ones are as many as it
-pub fresh_given : (o : Order) (count id : ℕ) → count + length o.vacant ≡ o.fresh → (give_back o id).fresh ≡ cond (nat_eq count o.fresh && nat_eq (id + 1) o.fresh) id o.fresh
+pub fresh_given : (o : Order) (count id : ℕ) → count + length o.vacant ≡ o.fresh
+    → (give_back o id).fresh ≡ cond (nat_eq count o.fresh && nat_eq (id + 1) o.fresh) id o.fresh
 fresh_given o count id total = fresh_given_by o.vacant o.fresh count id total
 
 fresh_given_le_by : (vacant : List ℕ) (fresh id : ℕ) → id < fresh → (give_to vacant fresh id).fresh ≤ fresh

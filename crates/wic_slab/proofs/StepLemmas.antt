@@ -1,8 +1,7 @@
 -- What an allocation and a giving back make of a slab, from the three things that they change.
-use Rattle.std.specs.Ordering.{nat_cmp}
-use Rattle.std.specs.FinMap.{FinMap, insert, remove}
+use Rattle.std.specs.FinMap.{insert, remove}
 use Rattle.std.proofs.Common.{◌≡◌, ℕ, ap, ◌∙◌}
-use Rattle.wic_slab.specs.Order.{Order, next_id, take_next, give_back, IsOrder, BelongsTo}
+use Rattle.wic_slab.specs.Order.{next_id, take_next, give_back, IsOrder, BelongsTo}
 use Rattle.wic_slab.specs.Slab.{Slab, IsLive, IsSlab, Holds, GivesBack}
 use Rattle.wic_slab.proofs.LiveLemmas.{get-insert_same, live_once_inserted, one_more_inserted, one_less_removed}
 use Rattle.wic_slab.proofs.OrderLemmas.{next_id_not_live, next_id-give_back}

@@ -38,7 +38,8 @@ impl<T> Slab<T> {
 }
 
 impl<'a, T> IterMut<'a, T> {
-    ghost use Rattle.wic_slab.specs.IterMut.{iter_mut_slab, iter_mut_from, iter_mut_left, iter_mut_lender, IsNextLive, NoneLiveFrom, walked_to, lends_value};
+    ghost use Rattle.wic_slab.specs.IterMut.{iter_mut_slab, iter_mut_from, iter_mut_left, iter_mut_lender};
+    ghost use Rattle.wic_slab.specs.IterMut.{IsNextLive, NoneLiveFrom, walked_to, lends_value};
 
     /// Goes on behind the next live id, and answers it, or `None` where no further id is live. The slab and the reference
     /// to it stay. It ends, and stays at its end.

@@ -1,5 +1,6 @@
 //! Values under ids that the slab hands out.
-ghost use Rattle.std.specs.Prelude.{◌≡◌, ◌+◌, ◌<◌, ◌≤◌, ◌==◌, ◌↔◌, ◌&&◌, if◌then◌else◌, Some, false, IsTrue, IsOk, IsErr, IsSome, IfOk, IfErr, OnOk, OnErr, option_copied};
+ghost use Rattle.std.specs.Prelude.{◌≡◌, ◌+◌, ◌<◌, ◌≤◌, ◌==◌, ◌↔◌, ◌&&◌, if◌then◌else◌, Some, false, option_copied};
+ghost use Rattle.std.specs.Prelude.{IsTrue, IsOk, IsErr, IsSome, IfOk, IfErr, OnOk, OnErr};
 ghost use Rattle.std.specs.Option.{option_copied_mut};
 ghost use Rattle.std.specs.Borrow.{Lends, sem};
 ghost use Rattle.std.specs.FinMap.{empty, get, insert, remove, contains_key, len};
@@ -126,8 +127,8 @@ impl<T> Slab<T> {
     }
 
     /// Makes room for `additional` more values than are live: `len() + additional` is at most `MAX_CAPACITY`. The live ids,
-    /// their values and the hand-out order stay, and so does the capacity where it is enough. It is refused only where the capacity is too small, and
-    /// then nothing changes. It asks for memory once.
+    /// their values and the hand-out order stay, and so does the capacity where it is enough. It is refused only where the
+    /// capacity is too small, and then nothing changes. It asks for memory once.
     ///
     /// A port of `Slab::reserve`.
     pub fn reserve(&mut self, additional: usize) -> Result<(), OutOfMemory>
@@ -206,8 +207,9 @@ impl<T> Slab<T> {
     }
 
     /// Holds `value` under the next id and answers that id. `len()` is below `MAX_CAPACITY`. It is refused only where the live
-    /// ids are as many as the capacity, and so never after a `reserve` for it: then `value` is dropped and nothing else changes. Where it asks for memory, it is for as many values
-    /// again, and for 16 at least, as far as `MAX_CAPACITY` allows.
+    /// ids are as many as the capacity, and so never after a `reserve` for it: then `value` is dropped and nothing else
+    /// changes. Where it asks for memory, it is for as many values again, and for 16 at least, as far as `MAX_CAPACITY`
+    /// allows.
     ///
     /// A port of `Slab::alloc`.
     pub fn alloc(&mut self, value: T) -> Result<Id, OutOfMemory>

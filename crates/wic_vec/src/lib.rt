@@ -1,20 +1,46 @@
 //! Vectors and texts whose growth can be refused.
 //!
-//! Memory is asked for before it is needed, so that nothing is left half done. `push_both` of the callers is proved to
-//! put both numbers there or to leave the vector as it was:
+//! A [`TryVec`] is a vector and a [`TryString`] a text that go on where memory runs out: each call that may want memory answers
+//! [`OutOfMemory`](wic_base::OutOfMemory), and its contract says when that can come and what is left then. A vector acts as the
+//! slice of its elements. [`TryClone`] is a copy that can be refused.
 //!
-//! ```text
-//! v.reserve(2)?;
-//! v.push_reserved(first);
-//! v.push_reserved(second);
+//! # Example
+//!
+//! ```
+//! // Both numbers or neither: the memory is asked for before the first one is put there.
+//! pub fn push_both(v: &mut TryVec<u32>, first: u32, second: u32) -> Result<(), OutOfMemory>
+//!     ensures both { OnOk result (v.new.items ≡ v.old.items ++ first ∷ second ∷ []) }
+//!     ensures refusal_leaves { OnErr result (v.new ≡ v.old) }
+//! {
+//!     v.reserve(2)?;
+//!     v.push_reserved(first);
+//!     v.push_reserved(second);
+//!     Ok(())
+//! }
 //! ```
 //!
-//! Each call that may want memory answers `OutOfMemory`, and its contract says when that can come and what is left then:
-//! `push` and `reserve` leave the value as it was, `resize` leaves the copies that it made. Below the capacity nothing is
-//! refused. A caller that meets a refusal may give up, free what it can spare and ask again, or go on without.
+//! It is proved, as the other functions in `src/callers.rt` are, from the contracts alone.
 //!
-//! `push` and `pop` cost amortised constant time, `retain` and `drain` one pass, a comparison stops at the first
-//! difference. No contract says when the allocator has memory, nor in which order elements are dropped.
+//! # On want of memory
+//!
+//! Below the capacity nothing is refused, so who must not fail later reserves first. After a refusal the value is as before, but
+//! for `resize`, which leaves the copies that it made: give up, free what can be spared and ask again, or go on without. A value
+//! that was to be pushed is dropped.
+//!
+//! # What it doesn't protect against
+//!
+//! No contract says when the allocator has memory, nor in which order elements are dropped. `extend_from_slice`, `push_str` and
+//! the like take what they are given: bound what comes from outside before it is put in. After `for x in &mut v` a caller's
+//! proof knows length and capacity alone; `for x in v.iter_mut()` tells it each element.
+//!
+//! # Costs
+//!
+//! | call | time |
+//! |---|---|
+//! | `push`, `pop`, `get`, `len`, `capacity` | constant, but for growth, which doubles the room |
+//! | `retain`, `retain_mut`, `drain`, `resize`, `try_clone` | one pass over the elements that are looked at |
+//! | a comparison | up to the first difference |
+//! | `push_decimal` of a text | the digits; it takes no memory of its own |
 #![tactic(auto)]
 
 mod boxes;

@@ -1,5 +1,5 @@
 use Rattle.std.specs.FinMap.{contains_key}
-use Rattle.std.proofs.Common.{◌≡◌, ◌≢◌, true, true≢false, sym, ap, ◌∙◌}
+use Rattle.std.proofs.Common.{◌≢◌, true≢false, sym, ap, ◌∙◌}
 use Rattle.wic_slab.specs.Order.{next_id}
 use Rattle.wic_slab.proofs.LiveLemmas.{get-insert_other}
 use Rattle.wic_slab.proofs.callers.hold_both.Goals as goal
@@ -10,5 +10,5 @@ returns-clause-first g c =
     let one = c.in_ok-one.ensures.holds in
     let other = c.in_ok-other.ensures.holds in
     let differs : c.in_ok-one.one ≢ next_id c.alloc.new.self.order = λ same.
-          true≢false (sym one.now_live ∙ ap (contains_key c.alloc.new.self.live) (same ∙ sym other.id_is) ∙ other.was_vacant) in
+    true≢false (sym one.now_live ∙ ap (contains_key c.alloc.new.self.live) (same ∙ sym other.id_is) ∙ other.was_vacant) in
     rw other.live (get-insert_other _ _ _ _ differs ∙ one.found)

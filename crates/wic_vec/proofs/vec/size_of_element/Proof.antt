@@ -17,7 +17,7 @@ use denote.Param.{layout, layouts}
 use denote.Steps.{nothing}
 use denote.Triple.Spec.{triple_of}
 use denote.Triple.Table.{entered}
-use denote.Triple.Walked.{says, walk_of, ends_at, walked, walk_Meets}
+use denote.Triple.Walked.{says, ends_at, walked, walk_Meets}
 use Rattle.wic_vec.specs.contracts.vec.size_of_element as f
 use Rattle.wic_vec.proofs.vec.size_of_element.Statement.{statement}
 use Rattle.wic_vec.proofs.vec.size_of_element.Code as code

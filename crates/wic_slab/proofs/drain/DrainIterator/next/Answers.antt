@@ -10,9 +10,14 @@ returns-then-contains-clause-steps g c =
     let at = c.loop-self.self in
     let kept = c.loop-self.invariant in
     let here = c.at-id.ensures in
-    let first = entries_first at.slab.now.live at.place c.dealloc.result (λ q below. kept.2 q (inl below)) (rw here at c.dealloc.ensures.value) in
+    let first = entries_first at.slab.now.live at.place c.dealloc.result (λ q below. kept.2 q (inl below))
+    (rw here at c.dealloc.ensures.value) in
     let ready = NoneOutside-removed at.slab.now.live at.place at.end kept.2 in
-    rw (← kept.0) (rw (c.dealloc.ensures.gives_back.live, here) first, (refl, c.dealloc.ensures.gives_back.capacity_stays), rw (c.dealloc.ensures.gives_back.live, here) ready)
+    rw (← kept.0) (
+      rw (c.dealloc.ensures.gives_back.live, here) first,
+      (refl, c.dealloc.ensures.gives_back.capacity_stays),
+      rw (c.dealloc.ensures.gives_back.live, here) ready,
+    )
 
 pub returns-then-contains-clause-goes : goal.returns-then-contains-clause-goes
 returns-then-contains-clause-goes g c =

@@ -25,12 +25,14 @@ unreachable-requires g c =
     let live = rw (← c.self.view_is) at c.requires in
     let found = live_value _ _ live in
     let occupied = occupied_at c.self.inside.entries.items c.args.id found.0 found.1 in
-    let vacant = rw c.into_raw-place.ensures.number at (c.index_mut.ensures.item ∙ ap Some (sym c.replace.ensures.value ∙ c.in-Vacant.is)) in
+    let vacant = rw c.into_raw-place.ensures.number at
+    (c.index_mut.ensures.item ∙ ap Some (sym c.replace.ensures.value ∙ c.in-Vacant.is)) in
     cc (occupied, vacant)
 
 pub returns-clause-value : goal.returns-clause-value
 returns-clause-value g c =
-    let occupied = rw c.into_raw-place.ensures.number at (c.index_mut.ensures.item ∙ ap Some (sym c.replace.ensures.value ∙ c.in-Occupied.is)) in
+    let occupied = rw c.into_raw-place.ensures.number at
+    (c.index_mut.ensures.item ∙ ap Some (sym c.replace.ensures.value ∙ c.in-Occupied.is)) in
     rw (← c.self.view_is) (get-occupied c.self.inside.entries.items c.args.id c.in-Occupied.value occupied)
 
 pub returns-clause-gives_back : goal.returns-clause-gives_back
