@@ -29,10 +29,13 @@
 //!
 //! The contract of `top` has the main theorem, its clause `headline`: for an input that is a script the sink gains exactly the
 //! text of one run of its items from empty, and the status is `Done`; or it gains the line of want of memory, and the status is
-//! `Oom`. `specs/Grammar` says which inputs are scripts, `specs/Machine` what a run is, `specs/Reply` the text of replies. The clause
-//! `concludes` says how a call came to any status: `specs/Attempt` has the table, `CallsFor`. What calls make of a device stands in the
-//! relation `reaches` of its trait, which `top` promises of both devices, with a bound on the reads and writes that moved bytes: so a
-//! caller learns of a device of its own what that one says.
+//! `Oom`. `specs/Grammar` says which inputs are scripts, `specs/Machine` what a run is, `specs/Reply` the text of replies. Three
+//! laws say what can be read back: the lines of a script tell its items (`law_one_script`), the text of a run tells its replies
+//! (`law_one_run`), and a script that reserves all its room first has one text alone (`law_plain_run`).
+//!
+//! The clause `concludes` of `top` says how a call came to any status: `specs/Attempt` has the table, `CallsFor`. What calls make of a
+//! device stands in the relation `reaches` of its trait, which `top` promises of both devices, with a bound on the reads and writes
+//! that moved bytes: so a caller learns of a device of its own what that one says.
 //!
 //! **What it does not do.** Nothing is written before the whole input was read and run. What a real file or terminal gives or
 //! takes is not proved, only what is done with the bytes that a source tells.
@@ -52,6 +55,7 @@ mod device;
 mod generator;
 mod item;
 mod kind;
+mod laws;
 mod line;
 mod memory_device;
 mod parser;
@@ -66,6 +70,7 @@ pub use device::{Failed, Sink, Source};
 pub use generator::generate;
 pub use item::{Item, Script};
 pub use kind::BatchKind;
+pub use laws::{law_one_run, law_one_script, law_plain_run};
 pub use memory_device::{CountSink, MemSink, MemSource, PlainSource};
 pub use parser::parse;
 pub use program::{Status, top};
