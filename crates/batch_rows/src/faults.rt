@@ -128,6 +128,7 @@ fn reads_ask_for_4096_bytes_and_end_at_the_end(rt: HostRuntime) -> Result<(), Fa
     assert_eq!(rt; status, Status::Done);
     assert_eq!(rt; source.longest, 4096);
     assert!(rt; source.has_ended);
+    assert_eq!(rt; source.faults, 0);
     Ok(())
 }
 

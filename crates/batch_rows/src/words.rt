@@ -74,12 +74,12 @@ fn equal_words_make_equal_runs_and_each_batch_is_counted_once(rt: HostRuntime) -
     assert_eq!(rt; second.status, Status::Done);
     assert_eq!(rt; first.sink.bytes(), second.sink.bytes());
     let mut batches: u64 = 0;
-    let mut lines = 0;
+    let mut lines: u64 = 0;
     for line in first.sink.bytes().split(|byte| *byte == b'\n') {
         if lines < 3 {
             batches = batches.wrapping_add(number_of(line));
         }
-        lines += 1;
+        lines = lines.wrapping_add(1);
     }
     assert_eq!(rt; batches, 1000);
     assert_eq!(rt; lines, 8);

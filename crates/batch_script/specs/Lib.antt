@@ -6,6 +6,7 @@ pub mod Generated
 pub mod Grammar
 pub mod Headline
 pub mod Kind
+pub mod Laws
 pub mod Machine
 pub mod MemoryDevice
 pub mod Reading

@@ -13,7 +13,7 @@ use Rattle.batch_script.specs.declared.parser.Reading.{Reading}
 use Rattle.batch_script.specs.declared.parser.Start.{Start}
 use Rattle.batch_script.specs.declared.parser.Start.TheVariants.{Reserve as StartsReserve, Show as StartsShow, Begin as StartsBatch}
 use Rattle.batch_script.specs.Machine.{Item, reserve, show, batch}
-use Rattle.batch_script.specs.Grammar.{Line, IsWritable, IsValidItem, IsValidCommand, all_lines, command_line, line_of}
+use Rattle.batch_script.specs.Grammar.{Line, IsOpen, IsWritable, IsValidItem, IsValidCommand, all_lines, command_line, line_of}
 
 -- an item of the parser as a plain item
 abbrev pub plain_item : SourceItem → Item
@@ -106,3 +106,13 @@ IsOutside reading lines = (reading.has_begun ≡ false) × AreRead (plain_items 
 -- so it has, and a batch has begun
 abbrev pub IsInside : Reading → List Line → Type 0
 IsInside reading lines = (reading.has_begun ≡ true) × AreRead (plain_items reading.items.items) (Some reading.commands.items) lines
+
+-- where the reading had taken lines so, it takes a line of this word and these numbers behind them
+abbrev pub TakesLine : (Reading → List Line → Type 0) → Reading → Reading → List ℕ → List ℕ → Type 0
+TakesLine Had old new word numbers =
+    (lines : List Line) (line : Line) → HasParts line word numbers → Had old lines → HasRead new (lines ++ line ∷ [])
+
+-- where it had taken lines so, no line of this word and these numbers goes on behind them
+abbrev pub RefusesLine : (Reading → List Line → Type 0) → Reading → List ℕ → List ℕ → Type 0
+RefusesLine Had old word numbers =
+    (lines : List Line) (line : Line) → HasParts line word numbers → Had old lines → ¬ IsOpen (lines ++ line ∷ [])

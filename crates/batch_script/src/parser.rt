@@ -4,7 +4,7 @@ ghost use Rattle.batch_core.specs.declared.command.Command.{Command};
 ghost use Rattle.batch_core.specs.declared.command.End.{End};
 ghost use Rattle.batch_script.specs.Machine.{Item as PlainItem};
 ghost use Rattle.batch_script.specs.Grammar.{Line, IsOpen, IsScriptOf, word_of, numbers_of, end_line, lines_of};
-ghost use Rattle.batch_script.specs.Reading.{HasParts, first_word, first_numbers, listed, plain_items, started};
+ghost use Rattle.batch_script.specs.Reading.{first_word, first_numbers, listed, plain_items, started};
 ghost use Rattle.batch_script.specs.Refusal.{IsJustified};
 
 use crate::item::{Item, Script};
@@ -127,7 +127,7 @@ pub(crate) struct Reading {
 }
 
 impl Reading {
-    ghost use Rattle.batch_script.specs.Reading.{HasRead, IsOutside, IsInside};
+    ghost use Rattle.batch_script.specs.Reading.{HasRead, IsInside, IsOutside, RefusesLine, TakesLine};
 
     fn new(alloc: Global) -> Reading
         ensures { HasRead result [] }
@@ -164,10 +164,8 @@ impl Reading {
         word: &[u8],
         numbers: Numbers,
     ) -> Result<(), LineRefusal>
-        ensures ok { OnOk result ((lines : List Line) (line : Line) → HasParts line word.now (listed numbers) → IsOutside self.old lines
-            → HasRead self.new (lines ++ line ∷ [])) }
-        ensures syntax { result ≡ Err LineRefusal.Syntax → (lines : List Line) (line : Line) → HasParts line word.now (listed numbers)
-            → IsOutside self.old lines → ¬ IsOpen (lines ++ line ∷ []) }
+        ensures ok { OnOk result (TakesLine IsOutside self.old self.new word.now (listed numbers)) }
+        ensures syntax { result ≡ Err LineRefusal.Syntax → RefusesLine IsOutside self.old word.now (listed numbers) }
     {
         match start_of(word, numbers) {
             Some(Start::Reserve(number)) => self.items.push(Item::Reserve(number))?,
@@ -188,10 +186,8 @@ impl Reading {
         word: &[u8],
         numbers: Numbers,
     ) -> Result<(), LineRefusal>
-        ensures ok { OnOk result ((lines : List Line) (line : Line) → HasParts line word.now (listed numbers) → IsInside self.old lines
-            → HasRead self.new (lines ++ line ∷ [])) }
-        ensures syntax { result ≡ Err LineRefusal.Syntax → (lines : List Line) (line : Line) → HasParts line word.now (listed numbers)
-            → IsInside self.old lines → ¬ IsOpen (lines ++ line ∷ []) }
+        ensures ok { OnOk result (TakesLine IsInside self.old self.new word.now (listed numbers)) }
+        ensures syntax { result ≡ Err LineRefusal.Syntax → RefusesLine IsInside self.old word.now (listed numbers) }
     {
         if let Some(command) = command_of(word, numbers) {
             self.commands.push(command)?;

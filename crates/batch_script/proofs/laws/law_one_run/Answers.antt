@@ -1,0 +1,5 @@
+use Rattle.batch_script.proofs.RunTexts.{one_run}
+use Rattle.batch_script.proofs.laws.law_one_run.Goals as goal
+
+pub returns : goal.returns
+returns c = record { one_run = one_run }

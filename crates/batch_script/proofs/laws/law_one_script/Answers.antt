@@ -1,0 +1,5 @@
+use Rattle.batch_script.proofs.ScriptFacts.{one_script}
+use Rattle.batch_script.proofs.laws.law_one_script.Goals as goal
+
+pub returns : goal.returns
+returns c = record { one_script = one_script }
