@@ -1,0 +1,29 @@
+//! Keys.
+ghost use Rattle.std.specs.Prelude.{◌≡◌, ◌↔◌, ℕ, ◌<◌, ◌≤◌, IsTrue};
+
+/// A key of an entity, as a block or a variable of a compiler: it has a number below a limit.
+///
+/// Each law is a clause of a call, about the keys that are passed. After Cranelift's `EntityRef`.
+pub trait EntityRef: Copy + Eq {
+    /// The numbers of keys are those below it.
+    ghost limit: { ℕ };
+
+    /// The number of a key.
+    ghost number: { Self → ℕ };
+
+    /// The limit, at most 4294967296.
+    fn limit() -> usize
+        ensures value { result ≡ limit }
+        ensures at_most { result ≤ 4294967296 };
+
+    /// A key with the number `index`, which is below the limit.
+    fn new(index: usize) -> Self
+        requires { index < limit }
+        ensures { number result ≡ index };
+
+    /// The number of the key. Another key is equal to it exactly where it has that number.
+    fn index(self) -> usize
+        ensures value { result ≡ number self }
+        ensures below { result < limit }
+        ensures equal { (other : Self) → number other < limit → (IsTrue (Self.eq self other) ↔ (number self ≡ number other)) };
+}

@@ -1,0 +1,250 @@
+//! The set of keys.
+ghost use Rattle.std.specs.Prelude.{◌≡◌, ℕ, ◌<◌, ◌≤◌, ◌↔◌, length, not, true};
+ghost use Rattle.std.specs.Prelude.{IsTrue, IsOk, IsNone, IfOk, IfSome, IfNone, OnOk, OnErr};
+ghost use Rattle.std.specs.List.Sorted.{IsStrictlyIncreasing};
+ghost use Rattle.std.specs.FinSet as fin_set;
+ghost use Rattle.wic_bitset.specs.Compound.{AllBelow, HasFrom, HasMore};
+ghost use Rattle.wic_bitset.specs.Rising.{rising};
+
+use crate::entity::EntityRef;
+use crate::keys::Keys;
+use std::alloc::Global;
+use std::marker::{Model, PhantomData};
+use wic_base::OutOfMemory;
+use wic_bitset::CompoundBitSet;
+
+/// A set of keys.
+///
+/// A contract sees the numbers of its keys, its `members`, a finite set of numbers below the limit of `K`, and its
+/// `capacity`: keys whose numbers are below it need no memory. After Cranelift's `EntitySet`.
+#[derive(Drop)]
+pub struct EntitySet<K: EntityRef> {
+    pub(crate) bits: CompoundBitSet,
+    keys: PhantomData<K>,
+}
+
+impl<K: EntityRef> Model for EntitySet<K> {
+    ghost use Rattle.wic_bitset.specs.Compound.{capacity_of, AllBelow};
+    ghost use Rattle.entity_set.specs.Entities.{Entities, entities_code};
+
+    ghost Value = { Entities };
+
+    ghost coded = { entities_code };
+
+    ghost view = { λ s. record { members = s.bits.members; capacity = capacity_of 64 s.bits } };
+
+    ghost invariant = { λ s. AllBelow K.limit s.bits.members };
+}
+
+impl<K: EntityRef> EntitySet<K> {
+    /// The empty set, of capacity 0. It takes no memory. Own.
+    pub fn new(alloc: Global) -> EntitySet<K>
+        ensures members { result.members ≡ fin_set.empty }
+        ensures capacity { result.capacity ≡ 0 }
+    {
+        EntitySet {
+            bits: CompoundBitSet::new(alloc),
+            keys: PhantomData,
+        }
+    }
+
+    /// The empty set with room for the keys whose numbers are below `n`, at most 4294967296. An `n` of 0 is never refused.
+    /// Own.
+    pub fn with_capacity(alloc: Global, n: usize) -> Result<EntitySet<K>, OutOfMemory>
+        requires within { n ≤ 4294967296 }
+        ensures members { IfOk result (λ set. set.members ≡ fin_set.empty) }
+        ensures capacity { IfOk result (λ set. n ≤ set.capacity) }
+        ensures zero_never_refused { n ≡ 0 → IsOk result }
+    {
+        let bits = CompoundBitSet::with_capacity(alloc, n)?;
+        Ok(EntitySet {
+            bits,
+            keys: PhantomData,
+        })
+    }
+
+    /// Makes room for the keys whose numbers are below `n`, at most 4294967296. It is refused only where `n` is above the
+    /// capacity, and then the set is as before. Own.
+    pub fn ensure_capacity(&mut self, n: usize) -> Result<(), OutOfMemory>
+        requires within { n ≤ 4294967296 }
+        ensures members { self.new.members ≡ self.old.members }
+        ensures capacity { OnOk result (n ≤ self.new.capacity) }
+        ensures never_refused_within { n ≤ self.old.capacity → IsOk result }
+        ensures unchanged_within { n ≤ self.old.capacity → self.new ≡ self.old }
+        ensures refused_only_beyond { OnErr result (self.old.capacity < n) }
+        ensures capacity_never_falls { self.old.capacity ≤ self.new.capacity }
+        ensures refusal_leaves { OnErr result (self.new ≡ self.old) }
+    {
+        self.bits.ensure_capacity(n)
+    }
+
+    /// How many numbers there is room for: an `insert` of a key whose number is below is never refused. Own.
+    ///
+    /// Its contract also says what is true of every set.
+    pub fn capacity(&self) -> usize
+        ensures capacity { result ≡ self.now.capacity }
+        ensures holds_all { AllBelow self.now.capacity self.now.members }
+        ensures below_limit { AllBelow K.limit self.now.members }
+    {
+        self.bits.capacity()
+    }
+
+    /// How many keys there are. Own.
+    pub fn len(&self) -> usize
+        ensures len { result ≡ fin_set.len self.now.members }
+        ensures few { result ≤ 4294967296 }
+    {
+        self.bits.len()
+    }
+
+    /// Whether there is no key. Own.
+    pub fn is_empty(&self) -> bool
+        ensures empty { IsTrue result ↔ (self.now.members ≡ fin_set.empty) }
+    {
+        self.bits.is_empty()
+    }
+
+    /// Puts `k` in, and answers whether it was not there before. It is refused only where its number isn't below the
+    /// capacity, and then the set is as before. Own.
+    pub fn insert(&mut self, k: K) -> Result<bool, OutOfMemory>
+        ensures new { IfOk result (λ is_new. is_new ≡ not (fin_set.contains self.old.members (K.number k))) }
+        ensures members { OnOk result (self.new.members ≡ fin_set.insert self.old.members (K.number k)) }
+        ensures never_refused_below { K.number k < self.old.capacity → IsOk result }
+        ensures capacity_kept_below { K.number k < self.old.capacity → self.new.capacity ≡ self.old.capacity }
+        ensures refused_only_beyond { OnErr result (self.old.capacity ≤ K.number k) }
+        ensures capacity_never_falls { self.old.capacity ≤ self.new.capacity }
+        ensures refusal_leaves { OnErr result (self.new ≡ self.old) }
+    {
+        let number = index_of(k);
+        self.bits.insert(number)
+    }
+
+    /// Takes `k` out, and answers whether it was there. Own.
+    pub fn remove(&mut self, k: K) -> bool
+        ensures present { result ≡ fin_set.contains self.old.members (K.number k) }
+        ensures members { self.new.members ≡ fin_set.remove self.old.members (K.number k) }
+        ensures capacity_stays { self.new.capacity ≡ self.old.capacity }
+    {
+        self.bits.remove(k.index())
+    }
+
+    /// Whether `k` is there. Own.
+    pub fn contains(&self, k: K) -> bool
+        ensures member { result ≡ fin_set.contains self.now.members (K.number k) }
+    {
+        self.bits.contains(k.index())
+    }
+
+    /// Takes the key of the greatest number out and answers it, or `None` exactly where there is none. Own.
+    pub fn pop(&mut self) -> Option<K>
+        ensures none { IsNone result ↔ (self.old.members ≡ fin_set.empty) }
+        ensures none_leaves { IfNone result (self.new ≡ self.old) }
+        ensures member { IfSome result (λ k. fin_set.contains self.old.members (K.number k) ≡ true) }
+        ensures greatest { IfSome result (λ k. (i : ℕ) → fin_set.contains self.old.members i ≡ true → i ≤ K.number k) }
+        ensures members { IfSome result (λ k. self.new.members ≡ fin_set.remove self.old.members (K.number k)) }
+        ensures capacity_stays { self.new.capacity ≡ self.old.capacity }
+    {
+        let number = self.bits.pop()?;
+        Some(K::new(number))
+    }
+
+    /// Takes every key out. The capacity stays. Own.
+    pub fn clear(&mut self)
+        ensures members { self.new.members ≡ fin_set.empty }
+        ensures capacity_stays { self.new.capacity ≡ self.old.capacity }
+    {
+        self.bits.clear();
+    }
+
+    /// A walk over the keys, by rising number, each once. Own.
+    pub fn keys(&self) -> Keys<'_, K>
+        ensures members { result ≡ rising self.now.members }
+        ensures each { fin_set.from_list result ≡ self.now.members }
+        ensures once { IsStrictlyIncreasing result }
+        ensures few { length result ≤ 4294967296 }
+    {
+        Keys::new(self.bits.iter())
+    }
+
+    /// The same keys, with the same capacity. Own.
+    pub fn try_clone(&self, alloc: Global) -> Result<EntitySet<K>, OutOfMemory>
+        ensures same { IfOk result (λ copy. copy ≡ self.now) }
+    {
+        let bits = self.bits.try_clone(alloc)?;
+        Ok(EntitySet {
+            bits,
+            keys: PhantomData,
+        })
+    }
+
+    /// Puts the keys of `other` in, a word at a time, and answers whether one of them was added. It is refused only where the
+    /// number of a key of `other` isn't below the capacity, and then the set is as before. Own.
+    pub fn union_with(&mut self, other: &EntitySet<K>) -> Result<bool, OutOfMemory>
+        ensures members { OnOk result (self.new.members ≡ fin_set.union self.old.members other.now.members) }
+        ensures added { IfOk result (λ added. IsTrue added ↔ HasMore self.old.members self.new.members) }
+        ensures never_refused_within { AllBelow self.old.capacity other.now.members → IsOk result }
+        ensures capacity_kept_within { AllBelow self.old.capacity other.now.members → self.new.capacity ≡ self.old.capacity }
+        ensures refused_only_beyond { OnErr result (HasFrom self.old.capacity other.now.members) }
+        ensures capacity_never_falls { self.old.capacity ≤ self.new.capacity }
+        ensures refusal_leaves { OnErr result (self.new ≡ self.old) }
+    {
+        self.bits.union_with(&other.bits)
+    }
+
+    /// Takes the keys out that `other` hasn't, a word at a time, and answers whether there was one. Own.
+    pub fn intersect_with(&mut self, other: &EntitySet<K>) -> bool
+        ensures members { self.new.members ≡ fin_set.intersection self.old.members other.now.members }
+        ensures dropped { IsTrue result ↔ HasMore self.new.members self.old.members }
+        ensures capacity_stays { self.new.capacity ≡ self.old.capacity }
+    {
+        self.bits.intersect_with(&other.bits)
+    }
+
+    /// Takes the keys out that `other` has, a word at a time, and answers whether there was one. Own.
+    pub fn subtract(&mut self, other: &EntitySet<K>) -> bool
+        ensures members { self.new.members ≡ fin_set.difference self.old.members other.now.members }
+        ensures dropped { IsTrue result ↔ HasMore self.new.members self.old.members }
+        ensures capacity_stays { self.new.capacity ≡ self.old.capacity }
+    {
+        self.bits.subtract(&other.bits)
+    }
+
+    /// Whether `other` has all keys. Own.
+    pub fn is_subset(&self, other: &EntitySet<K>) -> bool
+        ensures { result ≡ fin_set.is_subset self.now.members other.now.members }
+    {
+        self.bits.is_subset(&other.bits)
+    }
+
+    /// Whether the two have no key in common. Own.
+    pub fn is_disjoint(&self, other: &EntitySet<K>) -> bool
+        ensures { IsTrue result ↔ (fin_set.intersection self.now.members other.now.members ≡ fin_set.empty) }
+    {
+        self.bits.is_disjoint(&other.bits)
+    }
+}
+
+// The number of a key, which is at most the greatest that a set can hold.
+fn index_of<K: EntityRef>(k: K) -> usize
+    ensures value { result ≡ K.number k }
+    ensures below { result < K.limit }
+    ensures at_most { result ≤ 4294967295 }
+{
+    let limit = K::limit();
+    let number = k.index();
+    prove!(number < limit);
+    number
+}
+
+/// The keys, by rising number. Own.
+impl<'a, K: EntityRef> IntoIterator for &'a EntitySet<K> {
+    type Item = K;
+
+    type IntoIter = Keys<'a, K>;
+
+    ghost into_iter_gives = { λ s it. it ≡ rising s.now.members };
+
+    fn into_iter(self) -> Keys<'a, K> {
+        self.keys()
+    }
+}
