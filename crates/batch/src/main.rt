@@ -1,6 +1,7 @@
 //! The program: reads a script of batches from standard input and writes the replies to standard output.
 #![tactic(auto)]
 
+mod flushed;
 mod standard_device;
 
 use batch_script::{Status, top};

@@ -1,8 +1,9 @@
 //! Standard input and output as source and sink. Nothing is told of the bytes.
-ghost use Rattle.std.specs.Prelude.{⊤, ◌≡◌, ◌<◌, ◌≤◌, length, None, IfSome};
+ghost use Rattle.std.specs.Prelude.{⊤, None};
 
+use crate::flushed::write_flushed;
 use batch_script::{Failed, Sink, Source};
-use std::io::{Read, Stdin, Stdout, Write};
+use std::io::{Read, Stdin, Stdout};
 
 /// Standard input. It counts the reads that fail.
 #[derive(Drop)]
@@ -51,17 +52,6 @@ impl StdSink {
     pub fn new(output: Stdout) -> StdSink {
         StdSink { output, faults: 0 }
     }
-
-    // Writes and flushes: how many bytes were taken, or `None` at a fault.
-    fn put(&mut self, piece: &[u8]) -> Option<usize>
-        ensures within { IfSome result (λ count. count ≤ length piece.now) }
-        ensures progress { IfSome result (λ count. 0 < length piece.now → 0 < count) }
-        ensures kept { self.new.faults ≡ self.old.faults }
-    {
-        let count = self.output.write(piece).ok()?;
-        self.output.flush().ok()?;
-        (count > 0 || piece.is_empty()).then_some(count)
-    }
 }
 
 impl Sink for StdSink {
@@ -72,7 +62,7 @@ impl Sink for StdSink {
     ghost reaches = { λ _ _ _. ⊤ };
 
     fn write(&mut self, piece: &[u8]) -> Result<usize, Failed> {
-        match self.put(piece) {
+        match write_flushed(&mut self.output, piece) {
             Some(count) => Ok(count),
             None => {
                 self.faults = self.faults.saturating_add(1);
