@@ -1,8 +1,8 @@
 //! Callers of a set, proved from its contracts alone.
-ghost use Rattle.std.specs.Prelude.{◌≡◌, ℕ, ◌<◌, length, OnOk};
+ghost use Rattle.std.specs.Prelude.{◌≡◌, ℕ, ◌<◌, length, slice_index, OnOk};
 ghost use Rattle.std.specs.FinSet as fin_set;
 ghost use Rattle.wic_bitset.specs.Compound.{AllBelow};
-ghost use Rattle.entity_set.specs.Follows.{target, IsFollowed};
+ghost use Rattle.entity_set.specs.Follows.{IsFollowed};
 
 use crate::{EntityRef, EntitySet};
 use wic_base::OutOfMemory;
@@ -34,17 +34,17 @@ impl EntityRef for Block {
 pub fn follow(
     work: &mut EntitySet<Block>,
     done: &mut EntitySet<Block>,
-    jumps: &[Block],
+    jumps: &[u32],
 ) -> Result<(), OutOfMemory>
     requires blocks { AllBelow (length jumps.now) work.old.members }
     requires done { AllBelow (length jumps.now) done.old.members }
-    requires jumps { (b : ℕ) → b < length jumps.now → target jumps.now b < length jumps.now }
+    requires jumps { (b : ℕ) → b < length jumps.now → slice_index jumps.now b < length jumps.now }
     ensures none_left { OnOk result (work.new.members ≡ fin_set.empty) }
-    ensures followed { OnOk result (IsFollowed (target jumps.now) work.old.members done.old.members done.new.members) }
+    ensures followed { OnOk result (IsFollowed (slice_index jumps.now) work.old.members done.old.members done.new.members) }
 {
     while let Some(b) = work.pop() {
         if done.insert(b)? {
-            work.insert(jumps[b.index()])?;
+            work.insert(Block(jumps[b.index()]))?;
         }
     }
     Ok(())

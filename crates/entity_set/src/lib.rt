@@ -11,7 +11,7 @@
 //! // block jumps that is done here; in the end the worklist is empty.
 //! while let Some(b) = work.pop() {
 //!     if done.insert(b)? {
-//!         work.insert(jumps[b.index()])?;
+//!         work.insert(Block(jumps[b.index()]))?;
 //!     }
 //! }
 //! ```

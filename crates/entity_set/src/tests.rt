@@ -73,7 +73,7 @@ fn sets_are_joined_met_and_parted(rt: HostRuntime) -> Result<(), Fail> {
 #[test]
 fn a_worklist_is_followed_until_it_is_empty(rt: HostRuntime) -> Result<(), Fail> {
     let alloc = rt.alloc();
-    let jumps = [Block(2), Block(0), Block(3), Block(0), Block(1)];
+    let jumps = [2, 0, 3, 0, 1];
     let mut work = EntitySet::new(alloc);
     let mut done = EntitySet::new(alloc);
     work.insert(Block(2))?;

@@ -2,7 +2,7 @@ use Rattle.std.proofs.Common.{◌≡◌, ◌<◌, length, inl, inr, true, false,
 use Rattle.std.specs.FinSet.{contains, insert, remove}
 use Rattle.std.proofs.lemmas.Bool.{not-false, not-true}
 use Rattle.wic_bitset.proofs.SetFacts.{there_after_insert}
-use Rattle.entity_set.specs.Follows.{target}
+use Rattle.std.specs.Prelude.{slice_index}
 use Rattle.entity_set.proofs.FollowFacts.{following-step, following-ends, kept_after_insert, to_do, fewer-known, fewer-new}
 use Rattle.entity_set.proofs.KeysFacts.{below-insert, below-remove}
 use Rattle.entity_set.proofs.callers.follow.Goals as goal
@@ -13,7 +13,7 @@ loop-b-smaller-in_ok-insert-2 c =
     let b = c.in-Some.b.0 in
     let was = c.loop-b.invariant in
     let old = to_do n c.loop-b.work.members c.loop-b.done.members in
-    let to = target c.args.jumps.now c.index.result in
+    let to = slice_index c.args.jumps.now c.index.result in
     let on = c.in_ok-insert-2.ensures.members ∙ ap (λ s. insert s to) c.in-Some.ensures.members in
     let done = c.in_ok-insert.ensures.members in
     let isn't : contains c.loop-b.done.members b ≡ false = not-true _ (sym c.in_ok-insert.ensures.new ∙ c.if-branch.true) in
@@ -27,13 +27,13 @@ loop-b-preserved-in_ok-insert-2 c =
     let n = length c.args.jumps.now in
     let b = c.in-Some.b.0 in
     let was = c.loop-b.invariant in
-    let on = c.in_ok-insert-2.ensures.members ∙ ap (λ i. insert c.pop.new.self.members (target c.args.jumps.now i)) c.index.ensures.value in
+    let on = c.in_ok-insert-2.ensures.members ∙ ap (λ i. insert c.pop.new.self.members (slice_index c.args.jumps.now i)) c.index.ensures.value in
     let below = was.work b c.in-Some.ensures.member in
     record {
-      way = following-step (target c.args.jumps.now) _ _ _ _ _ _ b was.way c.in_ok-insert.ensures.members
+      way = following-step (slice_index c.args.jumps.now) _ _ _ _ _ _ b was.way c.in_ok-insert.ensures.members
           (λ q has. ap (λ s. contains s q) on
           ∙ kept_after_insert _ _ q (ap (λ s. contains s q) c.in-Some.ensures.members ∙ has))
-          (inr (ap (λ s. contains s (target c.args.jumps.now b)) on ∙ there_after_insert _ _));
+          (inr (ap (λ s. contains s (slice_index c.args.jumps.now b)) on ∙ there_after_insert _ _));
       work = below-insert n _ _ _ (c.requires.jumps b below) on (below-remove n _ _ _ c.in-Some.ensures.members was.work);
       done = below-insert n _ _ _ below c.in_ok-insert.ensures.members was.done;
     }
@@ -55,7 +55,7 @@ loop-b-preserved c =
     let was = c.loop-b.invariant in
     let there : contains c.loop-b.done.members b ≡ true = not-false _ (sym c.in_ok-insert.ensures.new ∙ c.if-branch.false) in
     record {
-      way = following-step (target c.args.jumps.now) _ _ _ _ _ _ b was.way c.in_ok-insert.ensures.members
+      way = following-step (slice_index c.args.jumps.now) _ _ _ _ _ _ b was.way c.in_ok-insert.ensures.members
           (λ q has. ap (λ s. contains s q) c.in-Some.ensures.members ∙ has) (inl there);
       work = below-remove n _ _ _ c.in-Some.ensures.members was.work;
       done = below-insert n _ _ _ (was.work b c.in-Some.ensures.member) c.in_ok-insert.ensures.members was.done;

@@ -1,12 +1,12 @@
 use Rattle.std.proofs.Common.{length}
 use Rattle.wic_bitset.specs.Compound.{AllBelow}
-use Rattle.entity_set.specs.Follows.{target}
+use Rattle.std.specs.Prelude.{slice_index}
 use Rattle.entity_set.proofs.FollowFacts.{IsFollowing, to_do}
 use Rattle.entity_set.proofs.callers.follow.Given as goal
 
 abbrev pub invariant-loop-b : goal.invariant-loop-b
 invariant-loop-b l = record {
-  way : IsFollowing (target l.jumps) l.initial.work.members l.initial.done.members l.work.members l.done.members;
+  way : IsFollowing (slice_index l.jumps) l.initial.work.members l.initial.done.members l.work.members l.done.members;
   work : AllBelow (length l.jumps) l.work.members;
   done : AllBelow (length l.jumps) l.done.members;
 }
