@@ -13,7 +13,7 @@ use wic_scalar::ScalarBitSetStorage;
 
 /// Two sets are equal exactly where they have the same members, whatever room they have.
 ///
-/// Port of the derived `PartialEq`, which compares the words and the cached maximum.
+/// A port of the derived `PartialEq`, which compares the words and the cached maximum.
 impl<T: ScalarBitSetStorage> PartialEq for CompoundBitSet<T> {
     ghost eq = { λ s t. pointwise nat_eq (rising s.members) (rising t.members) };
 
@@ -61,7 +61,7 @@ impl<T: ScalarBitSetStorage> Hash for CompoundBitSet<T> {
 
 /// The members in braces after the type's name, as in `CompoundBitSet {444, 555}`.
 ///
-/// Port of `impl Debug for CompoundBitSet`.
+/// A port of `impl Debug for CompoundBitSet`.
 impl<T: ScalarBitSetStorage> fmt::Debug for CompoundBitSet<T> {
     fn fmt<W: fmt::Write>(&self, f: &mut fmt::Formatter<W>) -> fmt::Result {
         f.write_str("CompoundBitSet ")?;

@@ -14,7 +14,7 @@ use wic_scalar::ScalarBitSetStorage;
 
 /// A walk over the members of a set, rising, seen as the list of those that are left.
 ///
-/// Port of `cranelift_bitset::compound::Iter`, which moves on after its end.
+/// A port of `cranelift_bitset::compound::Iter`, which moves on after its end.
 #[derive(Drop)]
 pub struct Iter<'a, T: ScalarBitSetStorage> {
     words: &'a Store<T>,

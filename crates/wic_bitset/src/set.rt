@@ -30,7 +30,7 @@ use wic_vec::TryVec;
 /// A set of numbers, each at most 4294967295, in words of `T`.
 ///
 /// A contract sees its `members`, a finite set, and the number of its `words`; the capacity is the words times the
-/// width of `T`. Port of `cranelift_bitset::CompoundBitSet`.
+/// width of `T`. A port of `cranelift_bitset::CompoundBitSet`.
 #[derive(Drop)]
 pub struct CompoundBitSet<T: ScalarBitSetStorage = usize> {
     words: Store<T>,
@@ -57,7 +57,7 @@ impl<T: ScalarBitSetStorage> Model for CompoundBitSet<T> {
 impl<T: ScalarBitSetStorage> CompoundBitSet<T> {
     /// The empty set, with no words. It takes no memory.
     ///
-    /// Port of `CompoundBitSet::new`.
+    /// A port of `CompoundBitSet::new`.
     pub fn new(alloc: Global) -> CompoundBitSet<T>
         ensures members { result.members ≡ fin_set.empty }
         ensures words { result.words ≡ 0 }
@@ -71,7 +71,7 @@ impl<T: ScalarBitSetStorage> CompoundBitSet<T> {
 
     /// The empty set with room for the numbers below `capacity`. A capacity of 0 is never refused.
     ///
-    /// Port of `CompoundBitSet::with_capacity`, which panics where memory is wanted.
+    /// A port of `CompoundBitSet::with_capacity`, which panics where memory is wanted.
     pub fn with_capacity(alloc: Global, capacity: usize) -> Result<CompoundBitSet<T>, OutOfMemory>
         requires within { capacity ≤ 4294967296 }
         ensures members { IfOk result (λ set. set.members ≡ fin_set.empty) }
@@ -84,7 +84,7 @@ impl<T: ScalarBitSetStorage> CompoundBitSet<T> {
 
     /// The empty set with room for the numbers below `capacity`. A capacity of 0 is never refused.
     ///
-    /// Port of `CompoundBitSet::try_with_capacity`.
+    /// A port of `CompoundBitSet::try_with_capacity`.
     pub fn try_with_capacity(
         alloc: Global,
         capacity: usize,
@@ -102,7 +102,7 @@ impl<T: ScalarBitSetStorage> CompoundBitSet<T> {
 
     /// The same members in as many words.
     ///
-    /// Port of `Clone for CompoundBitSet`, which panics where memory is wanted.
+    /// A port of `Clone for CompoundBitSet`, which panics where memory is wanted.
     pub fn try_clone(&self, alloc: Global) -> Result<CompoundBitSet<T>, OutOfMemory>
         ensures same { IfOk result (λ copy. copy ≡ self.now) }
     {
@@ -118,7 +118,7 @@ impl<T: ScalarBitSetStorage> CompoundBitSet<T> {
 
     /// Makes room for the numbers below `n`, as `try_ensure_capacity` does.
     ///
-    /// Port of `CompoundBitSet::ensure_capacity`, which panics where memory is wanted.
+    /// A port of `CompoundBitSet::ensure_capacity`, which panics where memory is wanted.
     pub fn ensure_capacity(&mut self, n: usize) -> Result<(), OutOfMemory>
         requires within { n ≤ 4294967296 }
         ensures members { self.new.members ≡ self.old.members }
@@ -137,7 +137,7 @@ impl<T: ScalarBitSetStorage> CompoundBitSet<T> {
     /// the rule of growth for the word of `n - 1`. The members stay. It is refused only where `n` is above the
     /// capacity, and then the set is as before.
     ///
-    /// Port of `CompoundBitSet::try_ensure_capacity`, which loses the members where it is refused.
+    /// A port of `CompoundBitSet::try_ensure_capacity`, which loses the members where it is refused.
     pub fn try_ensure_capacity(&mut self, n: usize) -> Result<(), OutOfMemory>
         requires within { n ≤ 4294967296 }
         ensures members { self.new.members ≡ self.old.members }
@@ -158,7 +158,7 @@ impl<T: ScalarBitSetStorage> CompoundBitSet<T> {
     /// Puts `i` in, and answers whether it was not there before. Where `i` isn't below the capacity, the count of words
     /// grows first, by the rule of growth for the word of `i`. It is refused only there, and then the set is as before.
     ///
-    /// Port of `CompoundBitSet::insert`, which panics where memory is wanted.
+    /// A port of `CompoundBitSet::insert`, which panics where memory is wanted.
     pub fn insert(&mut self, i: usize) -> Result<bool, OutOfMemory>
         requires number { i ≤ 4294967295 }
         ensures new { IfOk result (λ is_new. is_new ≡ not (fin_set.contains self.old.members i)) }
@@ -176,7 +176,7 @@ impl<T: ScalarBitSetStorage> CompoundBitSet<T> {
 
     /// Takes `i` out, and answers whether it was there: `i` may be any number.
     ///
-    /// Port of `CompoundBitSet::remove`.
+    /// A port of `CompoundBitSet::remove`.
     pub fn remove(&mut self, i: usize) -> bool
         ensures present { result ≡ fin_set.contains self.old.members i }
         ensures members { self.new.members ≡ fin_set.remove self.old.members i }
@@ -192,7 +192,7 @@ impl<T: ScalarBitSetStorage> CompoundBitSet<T> {
 
     /// Takes the greatest member out and answers it, or `None` exactly where there is none.
     ///
-    /// Port of `CompoundBitSet::pop`.
+    /// A port of `CompoundBitSet::pop`.
     pub fn pop(&mut self) -> Option<usize>
         ensures none { IsNone result ↔ (self.old.members ≡ fin_set.empty) }
         ensures none_leaves { IfNone result (self.new ≡ self.old) }
@@ -208,7 +208,7 @@ impl<T: ScalarBitSetStorage> CompoundBitSet<T> {
 
     /// Takes every member out. The words stay.
     ///
-    /// Port of `CompoundBitSet::clear`.
+    /// A port of `CompoundBitSet::clear`.
     pub fn clear(&mut self)
         ensures members { self.new.members ≡ fin_set.empty }
         ensures words { self.new.words ≡ self.old.words }
@@ -220,7 +220,7 @@ impl<T: ScalarBitSetStorage> CompoundBitSet<T> {
 
     /// Whether `i` is a member: `i` may be any number.
     ///
-    /// Port of `CompoundBitSet::contains`.
+    /// A port of `CompoundBitSet::contains`.
     pub fn contains(&self, i: usize) -> bool
         ensures member { result ≡ fin_set.contains self.now.members i }
         ensures below { IsTrue result → i < capacity_of T.width self.now }
@@ -231,7 +231,7 @@ impl<T: ScalarBitSetStorage> CompoundBitSet<T> {
 
     /// The greatest member, or `None` exactly where there is none.
     ///
-    /// Port of `CompoundBitSet::max`.
+    /// A port of `CompoundBitSet::max`.
     pub fn max(&self) -> Option<usize>
         ensures none { IsNone result ↔ (self.now.members ≡ fin_set.empty) }
         ensures member { IfSome result (λ x. fin_set.contains self.now.members x ≡ true) }
@@ -242,7 +242,7 @@ impl<T: ScalarBitSetStorage> CompoundBitSet<T> {
 
     /// How many members there are: the words that have a member are counted, each at once.
     ///
-    /// Port of `CompoundBitSet::len`.
+    /// A port of `CompoundBitSet::len`.
     pub fn len(&self) -> usize
         ensures len { result ≡ fin_set.len self.now.members }
         ensures few { result ≤ 4294967296 }
@@ -256,7 +256,7 @@ impl<T: ScalarBitSetStorage> CompoundBitSet<T> {
 
     /// Whether there is no member.
     ///
-    /// Port of `CompoundBitSet::is_empty`.
+    /// A port of `CompoundBitSet::is_empty`.
     pub fn is_empty(&self) -> bool
         ensures empty { IsTrue result ↔ (self.now.members ≡ fin_set.empty) }
     {
@@ -265,7 +265,7 @@ impl<T: ScalarBitSetStorage> CompoundBitSet<T> {
 
     /// How many numbers there is room for: an `insert` of a number below is never refused. Each member is below.
     ///
-    /// Port of `CompoundBitSet::capacity`.
+    /// A port of `CompoundBitSet::capacity`.
     pub fn capacity(&self) -> usize
         ensures capacity { result ≡ capacity_of T.width self.now }
         ensures holds_all { (i : ℕ) → fin_set.contains self.now.members i ≡ true → i < result }
@@ -277,7 +277,7 @@ impl<T: ScalarBitSetStorage> CompoundBitSet<T> {
     /// A walk over the members, rising, each once. It reads the summary words up to that of the greatest member, and
     /// each word that has a member once.
     ///
-    /// Port of `CompoundBitSet::iter`.
+    /// A port of `CompoundBitSet::iter`.
     pub fn iter(&self) -> Iter<'_, T>
         ensures members { result ≡ rising self.now.members }
         ensures each { fin_set.from_list result ≡ self.now.members }
@@ -290,7 +290,7 @@ impl<T: ScalarBitSetStorage> CompoundBitSet<T> {
     /// The words from word 0 to that of the greatest member, and none where there is no member. Each is a set of the
     /// places of its digits 1: place `j` of word `k` stands for the number `k * width + j`.
     ///
-    /// Port of `CompoundBitSet::iter_scalars`.
+    /// A port of `CompoundBitSet::iter_scalars`.
     pub fn iter_scalars(&self) -> IterScalars<'_, T>
         ensures words { AreWords T.width self.now.members (map (λ s. T.number s.0) result) }
     {
@@ -459,7 +459,7 @@ fn greatest_within<T: ScalarBitSetStorage>(
     }
 }
 
-/// The members, rising. Port of `impl IntoIterator for &CompoundBitSet`.
+/// The members, rising. A port of `impl IntoIterator for &CompoundBitSet`.
 impl<'a, T: ScalarBitSetStorage> IntoIterator for &'a CompoundBitSet<T> {
     type Item = usize;
 

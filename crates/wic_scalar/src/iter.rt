@@ -10,7 +10,7 @@ use std::marker::Model;
 
 /// A walk over the members of a set, rising, seen as the list of those that are left.
 ///
-/// Port of `cranelift_bitset::scalar::Iter`, with the exact count in `size_hint` too.
+/// A port of `cranelift_bitset::scalar::Iter`, with the exact count in `size_hint` too.
 #[derive(Drop)]
 pub struct Iter<T: ScalarBitSetStorage> {
     // What is left.

@@ -16,12 +16,12 @@ use crate::storage::ScalarBitSetStorage;
 /// A clause sees it as the rising list `members_of` or, where the order is idle, as the set
 /// `set_of`. No call but a walk looks at one place after another.
 ///
-/// Port of `cranelift_bitset::ScalarBitSet`.
+/// A port of `cranelift_bitset::ScalarBitSet`.
 #[derive(Clone, Copy)]
 pub struct ScalarBitSet<T>(pub T);
 
 impl<T: ScalarBitSetStorage> ScalarBitSet<T> {
-    /// The empty set. Port of `ScalarBitSet::new`.
+    /// The empty set. A port of `ScalarBitSet::new`.
     #[inline]
     pub fn new() -> Self
         ensures { members_of T.width (T.number result.0) ≡ [] }
@@ -30,7 +30,7 @@ impl<T: ScalarBitSetStorage> ScalarBitSet<T> {
     }
 
     /// The numbers from `lo` to below `hi`: none where the two are equal, at the full width too.
-    /// Port of `ScalarBitSet::from_range`, which shifts by the width at `lo == hi == capacity()`.
+    /// A port of `ScalarBitSet::from_range`, which shifts by the width at `lo == hi == capacity()`.
     #[inline]
     pub fn from_range(lo: u8, hi: u8) -> Self
         requires ordered { lo ≤ hi }
@@ -40,7 +40,7 @@ impl<T: ScalarBitSetStorage> ScalarBitSet<T> {
         Self(T::below(hi).bit_and(T::below(lo).bit_not()))
     }
 
-    /// How many numbers the set can hold: each is below this. Port of `ScalarBitSet::capacity`.
+    /// How many numbers the set can hold: each is below this. A port of `ScalarBitSet::capacity`.
     #[inline]
     pub fn capacity() -> u8
         ensures width { result ≡ T.width }
@@ -49,7 +49,7 @@ impl<T: ScalarBitSetStorage> ScalarBitSet<T> {
         T::width()
     }
 
-    /// How many members there are. Port of `ScalarBitSet::len`.
+    /// How many members there are. A port of `ScalarBitSet::len`.
     #[inline]
     pub fn len(&self) -> u8
         ensures count { result ≡ length (members_of T.width (T.number self.now.0)) }
@@ -58,7 +58,7 @@ impl<T: ScalarBitSetStorage> ScalarBitSet<T> {
         self.0.count_ones()
     }
 
-    /// Whether there is no member. Port of `ScalarBitSet::is_empty`.
+    /// Whether there is no member. A port of `ScalarBitSet::is_empty`.
     #[inline]
     pub fn is_empty(&self) -> bool
         ensures { IsTrue result ↔ (members_of T.width (T.number self.now.0) ≡ []) }
@@ -66,7 +66,7 @@ impl<T: ScalarBitSetStorage> ScalarBitSet<T> {
         self.0.is_equal(T::zero())
     }
 
-    /// Whether `i`, which is below `capacity()`, is a member. Port of `ScalarBitSet::contains`.
+    /// Whether `i`, which is below `capacity()`, is a member. A port of `ScalarBitSet::contains`.
     #[inline]
     pub fn contains(&self, i: u8) -> bool
         requires { i < T.width }
@@ -76,7 +76,7 @@ impl<T: ScalarBitSetStorage> ScalarBitSet<T> {
     }
 
     /// Puts `i`, which is below `capacity()`, in, and answers whether it was not there before.
-    /// Port of `ScalarBitSet::insert`.
+    /// A port of `ScalarBitSet::insert`.
     #[inline]
     pub fn insert(&mut self, i: u8) -> bool
         requires { i < T.width }
@@ -93,7 +93,7 @@ impl<T: ScalarBitSetStorage> ScalarBitSet<T> {
     }
 
     /// Takes `i`, which is below `capacity()`, out, and answers whether it was there.
-    /// Port of `ScalarBitSet::remove`.
+    /// A port of `ScalarBitSet::remove`.
     #[inline]
     pub fn remove(&mut self, i: u8) -> bool
         requires { i < T.width }
@@ -109,7 +109,7 @@ impl<T: ScalarBitSetStorage> ScalarBitSet<T> {
         true
     }
 
-    /// Takes every member out. Port of `ScalarBitSet::clear`.
+    /// Takes every member out. A port of `ScalarBitSet::clear`.
     #[inline]
     pub fn clear(&mut self)
         ensures { members_of T.width (T.number self.new.0) ≡ [] }
@@ -118,7 +118,7 @@ impl<T: ScalarBitSetStorage> ScalarBitSet<T> {
     }
 
     /// Takes the least member out and answers it, or `None` where there is none.
-    /// Port of `ScalarBitSet::pop_min`.
+    /// A port of `ScalarBitSet::pop_min`.
     #[inline]
     pub fn pop_min(&mut self) -> Option<u8>
         ensures none { IsNone result ↔ (members_of T.width (T.number self.old.0) ≡ []) }
@@ -138,7 +138,7 @@ impl<T: ScalarBitSetStorage> ScalarBitSet<T> {
     }
 
     /// Takes the greatest member out and answers it, or `None` where there is none.
-    /// Port of `ScalarBitSet::pop_max`.
+    /// A port of `ScalarBitSet::pop_max`.
     #[inline]
     pub fn pop_max(&mut self) -> Option<u8>
         ensures none { IsNone result ↔ (members_of T.width (T.number self.old.0) ≡ []) }
@@ -157,7 +157,7 @@ impl<T: ScalarBitSetStorage> ScalarBitSet<T> {
         }
     }
 
-    /// The least member, or `None` where there is none. Port of `ScalarBitSet::min`.
+    /// The least member, or `None` where there is none. A port of `ScalarBitSet::min`.
     #[inline]
     pub fn min(&self) -> Option<u8>
         ensures none { IsNone result ↔ (members_of T.width (T.number self.now.0) ≡ []) }
@@ -172,7 +172,7 @@ impl<T: ScalarBitSetStorage> ScalarBitSet<T> {
         }
     }
 
-    /// The greatest member, or `None` where there is none. Port of `ScalarBitSet::max`.
+    /// The greatest member, or `None` where there is none. A port of `ScalarBitSet::max`.
     #[inline]
     pub fn max(&self) -> Option<u8>
         ensures none { IsNone result ↔ (members_of T.width (T.number self.now.0) ≡ []) }
@@ -187,7 +187,7 @@ impl<T: ScalarBitSetStorage> ScalarBitSet<T> {
         }
     }
 
-    /// A walk over the members, rising, each once, from either end. Port of `ScalarBitSet::iter`.
+    /// A walk over the members, rising, each once, from either end. A port of `ScalarBitSet::iter`.
     #[inline]
     pub fn iter(self) -> Iter<T>
         ensures members { result ≡ members_of T.width (T.number self.0) }
@@ -198,7 +198,7 @@ impl<T: ScalarBitSetStorage> ScalarBitSet<T> {
     }
 }
 
-/// The empty set. Port of `impl Default for ScalarBitSet`.
+/// The empty set. A port of `impl Default for ScalarBitSet`.
 impl<T: ScalarBitSetStorage> Default for ScalarBitSet<T> {
     ghost is_default = { λ s. members_of T.width (T.number s.0) ≡ [] };
 
@@ -208,7 +208,7 @@ impl<T: ScalarBitSetStorage> Default for ScalarBitSet<T> {
     }
 }
 
-/// Two sets are equal exactly where they have the same members. Port of the derived `PartialEq`.
+/// Two sets are equal exactly where they have the same members. A port of the derived `PartialEq`.
 impl<T: ScalarBitSetStorage> PartialEq for ScalarBitSet<T> {
     ghost eq = { on (λ s. members_of T.width (T.number s.0)) (pointwise nat_eq) };
 
@@ -227,7 +227,7 @@ impl<T: ScalarBitSetStorage> Eq for ScalarBitSet<T> {
     ghost laws = { on_equiv (λ s. members_of T.width (T.number s.0)) nat_list_eq_equiv };
 }
 
-/// The set of the places of a number whose digit is 1. Port of `impl From<T> for ScalarBitSet<T>`.
+/// The set of the places of a number whose digit is 1. A port of `impl From<T> for ScalarBitSet<T>`.
 impl<T: ScalarBitSetStorage> From<T> for ScalarBitSet<T> {
     ghost from_gives = { λ bits s. s.0 ≡ bits };
 
@@ -237,7 +237,7 @@ impl<T: ScalarBitSetStorage> From<T> for ScalarBitSet<T> {
     }
 }
 
-/// The members, rising. Port of `impl IntoIterator for ScalarBitSet`.
+/// The members, rising. A port of `impl IntoIterator for ScalarBitSet`.
 impl<T: ScalarBitSetStorage> IntoIterator for ScalarBitSet<T> {
     type Item = u8;
 
@@ -251,7 +251,7 @@ impl<T: ScalarBitSetStorage> IntoIterator for ScalarBitSet<T> {
     }
 }
 
-/// The members, rising. Port of `impl IntoIterator for &ScalarBitSet`.
+/// The members, rising. A port of `impl IntoIterator for &ScalarBitSet`.
 impl<'a, T: ScalarBitSetStorage> IntoIterator for &'a ScalarBitSet<T> {
     type Item = u8;
 

@@ -7,7 +7,7 @@ ghost use Rattle.wic_scalar.specs.Scalar.{members_of};
 
 /// An unsigned integer that holds a set, by its digits in base two: digit 0 is the lowest.
 ///
-/// Each law is a clause of a call, about the values that are passed. Port of
+/// Each law is a clause of a call, about the values that are passed. A port of
 /// `cranelift_bitset::scalar::ScalarBitSetStorage`: the operators that the trait asks for there are
 /// calls here, so that each has its law, and `width`, `zero`, `bit` and `below` are its own.
 pub trait ScalarBitSetStorage: Copy {
