@@ -91,6 +91,10 @@ fn a_dead_id_finds_nothing(rt: HostRuntime) -> Result<(), Fail> {
         pairs.push((id.into_raw(), *value))?;
     }
     assert_eq!(rt; pairs.as_slice(), [(0, 10), (2, 12)].as_slice());
+    let empty: Slab<u64> = Slab::new(rt.alloc());
+    let greatest = id_of(4294967294)?;
+    assert!(rt; !empty.contains(greatest));
+    assert_eq!(rt; empty.get(greatest), None);
     Ok(())
 }
 
