@@ -59,43 +59,6 @@ step_is_plain : (state : State ℕ) (item : Item) (reply : Reply) (next : State 
 step_is_plain state item reply next within (inl plain) = plain
 step_is_plain state item reply next within (inr short) = absurd (within short.0)
 
--- a run from a state with this room, where no item asks for more, is the plain one
-plain_run : (room : ℕ) (state : State ℕ) (items : List Item) (replies : List Reply) → state.room ≡ room → Run state items replies
-    → AllByRecursion (AsksForNoMore room) items → BatchesFit room state items → (replies ≡ plain_replies state items) × IsPlain replies
-plain_run room state [] [] is run least fits = (refl, tt)
-plain_run room state [] (reply ∷ replies) is run least fits = absurd run
-plain_run room state (item ∷ items) [] is run least fits = absurd run
-plain_run room state (item ∷ items) (reply ∷ replies) is run least fits =
-    let step = step_is_plain state item reply run.0 (not_beyond room state item is least.0 fits.0) run.1 in
-    let first : reply ≡ (plain_step state item).0 = ap (λ p. p.0) step in
-    let next : run.0 ≡ (plain_step state item).1 = ap (λ p. p.1) step in
-    let later = plain_run room (plain_step state item).1 items replies (room_kept room state item is least.0)
-    (subst (λ s. Run s items replies) next run.2) least.1 fits.1 in
-    let others : replies ≡ plain_replies (plain_step state item).1 items = later.0 in
-    (cc, (λ none. plain_answers state item (sym first ∙ none), later.1))
-
--- the first reservation was accepted, and its room is the one that was asked for
-first_is_plain : (room : ℕ) (next : State ℕ) → ItemStep empty_state (reserve room) reserved next
-    → (reserved, next) ≡ plain_step empty_state (reserve room)
-first_is_plain room next (inl plain) = plain
-first_is_plain room next (inr short) = absurd (let same : reserved ≡ no_memory = short.1 in cc)
-
-first_room : (within : Bool) (room : ℕ) → within ≡ true → (reserve_by within empty_state room).1.room ≡ room
-first_room true room test = omega arith
-first_room false room test = absurd (cc)
-
-pub plain_with_room : RoomMakesPlain
-plain_with_room room items replies limit run least fits =
-    let after = (plain_step empty_state (reserve room)).1 in
-    let step = first_is_plain room run.0 run.1 in
-    let next : run.0 ≡ after = ap (λ p. p.1) step in
-    let first : reserved ≡ (plain_step empty_state (reserve room)).0 = ap (λ p. p.0) step in
-    let test : nat_le room max_capacity ≡ true = grind (arith, nat_tests) in
-    let later = plain_run room after items replies (first_room (nat_le room max_capacity) room test)
-    (subst (λ s. Run s items replies) next run.2) least fits.1 in
-    let others : replies ≡ plain_replies after items = later.0 in
-    record { same = cc; plain = (λ none. plain_answers empty_state (reserve room) (sym first ∙ none), later.1) }
-
 -- no plain reply is that there was no memory
 plain_replies_plain : (state : State ℕ) (items : List Item) → IsPlain (plain_replies state items)
 plain_replies_plain state [] = tt
@@ -120,6 +83,39 @@ plain_alone state (item ∷ items) (reply ∷ replies) run found =
     let later : replies ≡ plain_replies (plain_step state item).1 items =
     plain_alone (plain_step state item).1 items replies (subst (λ s. Run s items replies) next run.2) found.1 in
     cc
+
+-- in a run from a state with this room, where no item asks for more, nothing is refused for memory
+within_is_plain : (room : ℕ) (state : State ℕ) (items : List Item) (replies : List Reply) → state.room ≡ room → Run state items replies
+    → AllByRecursion (AsksForNoMore room) items → BatchesFit room state items → IsPlain replies
+within_is_plain room state [] [] is run least fits = tt
+within_is_plain room state [] (reply ∷ replies) is run least fits = absurd run
+within_is_plain room state (item ∷ items) [] is run least fits = absurd run
+within_is_plain room state (item ∷ items) (reply ∷ replies) is run least fits =
+    let step = step_is_plain state item reply run.0 (not_beyond room state item is least.0 fits.0) run.1 in
+    let first : reply ≡ (plain_step state item).0 = ap (λ p. p.0) step in
+    let next : run.0 ≡ (plain_step state item).1 = ap (λ p. p.1) step in (
+      (λ none. plain_answers state item (sym first ∙ none)),
+      within_is_plain room (plain_step state item).1 items replies (room_kept room state item is least.0)
+          (subst (λ s. Run s items replies) next run.2) least.1 fits.1,
+    )
+
+-- the first reservation makes the room
+first_room : (within : Bool) (room : ℕ) → within ≡ true → (reserve_by within empty_state room).1.room ≡ room
+first_room true room test = omega arith
+first_room false room test = absurd (cc)
+
+pub plain_with_room : RoomMakesPlain
+plain_with_room room items replies limit run least fits =
+    let after = (plain_step empty_state (reserve room)).1 in
+    let step = answered_is_plain empty_state (reserve room) reserved run.0 run.1 (λ same. cc) in
+    let next : run.0 ≡ after = ap (λ p. p.1) step in
+    let test : nat_le room max_capacity ≡ true = grind (arith, nat_tests) in
+    let plain : IsPlain (reserved ∷ replies) = (
+      (λ same. cc),
+      within_is_plain room after items replies (first_room (nat_le room max_capacity) room test)
+          (subst (λ s. Run s items replies) next run.2) least fits.1,
+    ) in
+    record { same = plain_alone empty_state (reserve room ∷ items) (reserved ∷ replies) run plain; plain = plain }
 
 pub one_plain_run : (items : List Item) → HasOnePlainRun items
 one_plain_run items = record {
