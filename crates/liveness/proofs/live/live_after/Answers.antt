@@ -1,0 +1,9 @@
+use Rattle.liveness.proofs.SetsFacts.{any_at, after_more}
+use Rattle.liveness.proofs.live.live_after.Goals as goal
+
+pub index-requires : goal.index-requires
+index-requires c = c.requires _ (rw (← c.successors-c-items.ensures) (any_at _ _ _ c.loop-c-test.true))
+
+pub loop-c-preserved : goal.loop-c-preserved
+loop-c-preserved c v = after_more _ _ _ _ _ _ _ _ c.loop-c-test.true c.index.ensures c.in_ok-union_with.ensures.members
+    (c.loop-c.invariant v)
