@@ -27,7 +27,8 @@ loop-b-preserved-in_ok-insert-2 c =
     let n = length c.args.jumps.now in
     let b = c.in-Some.b.0 in
     let was = c.loop-b.invariant in
-    let on = c.in_ok-insert-2.ensures.members ∙ ap (λ i. insert c.pop.new.self.members (slice_index c.args.jumps.now i)) c.index.ensures.value in
+    let on = c.in_ok-insert-2.ensures.members
+    ∙ ap (λ i. insert c.pop.new.self.members (slice_index c.args.jumps.now i)) c.index.ensures.value in
     let below = was.work b c.in-Some.ensures.member in
     record {
       way = following-step (slice_index c.args.jumps.now) _ _ _ _ _ _ b was.way c.in_ok-insert.ensures.members
