@@ -219,38 +219,45 @@ const PAIRS: [Pair<'static>; 5] = [
     },
 ];
 
-fn matches_pair(rt: &impl Abort, alloc: Global, pair: &Pair<'_>) -> Result<(), Fail> {
-    let left = set_of::<u16>(alloc, pair.left)?;
-    let right = set_of::<u16>(alloc, pair.right)?;
-    let (mut either, mut both, mut alone) = (
-        left.try_clone(alloc)?,
-        left.try_clone(alloc)?,
-        left.try_clone(alloc)?,
-    );
+fn joins(rt: &impl Abort, alloc: Global, pair: &Pair<'_>) -> Result<(), Fail> {
+    let mut set = set_of::<u16>(alloc, pair.left)?;
+    let other = set_of::<u16>(alloc, pair.right)?;
+    let is_new = set.union_with(&other)?;
+    assert_eq!(rt; is_new, pair.either.len() > pair.left.len());
+    assert!(rt; set == set_of(alloc, pair.either)?);
+    Ok(())
+}
+
+fn meets(rt: &impl Abort, alloc: Global, pair: &Pair<'_>) -> Result<(), Fail> {
+    let mut set = set_of::<u16>(alloc, pair.left)?;
+    let other = set_of::<u16>(alloc, pair.right)?;
+    assert_eq!(rt; set.is_disjoint(&other), pair.both.is_empty());
     assert_eq!(rt;
-        either.union_with(&right)?,
-        pair.either.len() > pair.left.len()
-    );
-    assert_eq!(rt;
-        both.intersect_with(&right),
+        set.intersect_with(&other),
         pair.both.len() < pair.left.len()
     );
+    assert!(rt; set == set_of(alloc, pair.both)?);
+    Ok(())
+}
+
+fn parts(rt: &impl Abort, alloc: Global, pair: &Pair<'_>) -> Result<(), Fail> {
+    let mut set = set_of::<u16>(alloc, pair.left)?;
+    let other = set_of::<u16>(alloc, pair.right)?;
+    assert_eq!(rt; set.is_subset(&other), pair.left_alone.is_empty());
     assert_eq!(rt;
-        alone.subtract(&right),
+        set.subtract(&other),
         pair.left_alone.len() < pair.left.len()
     );
-    assert!(rt; either == set_of(alloc, pair.either)?);
-    assert!(rt; both == set_of(alloc, pair.both)?);
-    assert!(rt; alone == set_of(alloc, pair.left_alone)?);
-    assert_eq!(rt; left.is_subset(&right), pair.left_alone.is_empty());
-    assert_eq!(rt; left.is_disjoint(&right), pair.both.is_empty());
+    assert!(rt; set == set_of(alloc, pair.left_alone)?);
     Ok(())
 }
 
 #[test]
 fn two_sets_are_joined_and_parted_by_words(rt: HostRuntime) -> Result<(), Fail> {
     for pair in &PAIRS {
-        matches_pair(&rt, rt.alloc(), pair)?;
+        joins(&rt, rt.alloc(), pair)?;
+        meets(&rt, rt.alloc(), pair)?;
+        parts(&rt, rt.alloc(), pair)?;
     }
     Ok(())
 }
