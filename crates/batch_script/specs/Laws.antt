@@ -8,12 +8,12 @@ use Rattle.batch_script.specs.Machine.{Item, reserve, batch, Reply, reserved, pl
 use Rattle.batch_script.specs.Grammar.{IsValidItem, all_lines}
 use Rattle.batch_script.specs.Reply.{text_of}
 
--- two lists of valid items with the same printed lines are equal
+-- valid items that are printed alike, line for line, are the same items
 abbrev pub LinesTellItems : Type 0
 LinesTellItems = (items others : List Item) → AllByRecursion IsValidItem items → AllByRecursion IsValidItem others
     → all_lines items ≡ all_lines others → items ≡ others
 
--- two runs of one list of items with the same reply text are equal
+-- items that are run to one text were given the same replies
 abbrev pub TextTellsRun : Type 0
 TextTellsRun = (items : List Item) (replies others : List Reply) → Run empty_state items replies → Run empty_state items others
     → text_of replies ≡ text_of others → replies ≡ others

@@ -3,12 +3,12 @@ ghost use Rattle.std.specs.Prelude.{List};
 ghost use Rattle.batch_script.specs.Laws.{LinesTellItems, TextTellsRun, RoomMakesPlain, HasOnePlainRun};
 ghost use Rattle.batch_script.specs.Machine.{Item};
 
-/// Two lists of valid items with the same printed lines are equal: an input is the script of one list of items alone. Own.
+/// An input is the script of one list of items alone: valid items that are printed alike, line for line, are the same items. Own.
 pub fn law_one_script()
     ensures one_script { LinesTellItems }
 {}
 
-/// Two runs of one list of items with the same reply text are equal: the text tells what each item was answered. Own.
+/// The text of a run tells what each item was answered: items that are run to one text were given the same replies. Own.
 pub fn law_one_run()
     ensures one_run { TextTellsRun }
 {}
