@@ -150,7 +150,7 @@ no_lines_left (reserve number) rest same = let bad : _ = same in cc
 no_lines_left show rest same = let bad : _ = same in cc
 no_lines_left (batch commands ending) rest same = let bad : _ = same in cc
 
--- two lists of valid items with the same printed lines are equal
+-- valid items that are printed alike, line for line, are the same items
 pub one_script : (items others : List Item) → AllByRecursion IsValidItem items → AllByRecursion IsValidItem others
     → all_lines items ≡ all_lines others → items ≡ others
 one_script [] [] valid sound same = refl
