@@ -93,6 +93,7 @@ filled_words-insert w s i = same_by_absence _ _
     (filled_words-empty w (insert s i) k).1 (λ q at.
     same_after_insert s i q (λ same. apart (sym at ∙ ap (λ n. n / w) same)) ∙ empty q at))
 
+-- one number more is one such word more at most
 pub len-filled_words-insert : (w : ℕ) (s : FinSet nat_cmp) (i : ℕ) → len (filled_words w (insert s i)) ≤ len (filled_words w s) + 1
 len-filled_words-insert w s i =
     let same = ap len (filled_words-insert w s i) in omega (arith, same, len-insert-le (filled_words w s) (i / w))

@@ -14,12 +14,13 @@ use Rattle.std.proofs.lemmas.Bool.{false_from_ne_true}
 use Rattle.std.proofs.lemmas.List.{map-set}
 use Rattle.std.proofs.lemmas.Nat.{div_below, div-mul-add, mod-mul-add, mod_below}
 use Rattle.wic_scalar.specs.Digits.{is_one}
-use Rattle.wic_scalar.specs.Scalar.{members_of}
-use Rattle.wic_scalar.proofs.MemberLemmas.{contains_below, members_of-none, members_of-same, none_from_members, same_from_members}
+use Rattle.wic_scalar.specs.Scalar.{set_of}
+use Rattle.wic_scalar.proofs.MemberLemmas.{contains_below, none_from_empty, same_from_sets}
+use Rattle.wic_scalar.proofs.SetLemmas.{set_of-none, set_of-same}
 use Rattle.wic_bitset.specs.Combination.{combined, TellsChange, CombinesWord, CombinesBelow, CombinesToNone, LeavesFrom}
 use Rattle.wic_bitset.specs.Combination.{MarksBelow}
 use Rattle.wic_bitset.specs.Compound.{HasMore}
-use Rattle.wic_bitset.specs.Greatest.{IsGreatest}
+use Rattle.wic_scalar.specs.Extremes.{IsGreatest}
 use Rattle.wic_bitset.specs.Summary.{Summarizes}
 use Rattle.wic_bitset.specs.Words.{Words, EndsBefore, IsWordOf, IsWordEmpty, set_of_words}
 use Rattle.wic_bitset.specs.declared.combination.Combination.{Combination}
@@ -90,10 +91,10 @@ module _ {X : Type 0} (f : X → ℕ) (w k : ℕ) (items : List X) (x y : X) (so
   }
 
   -- whether the two words differ tells whether the sets do
-  pub word_tells : (r : Bool) → (IsTrue r ↔ (members_of w (f y) ≡ members_of w (f x)))
+  pub word_tells : (r : Bool) → (IsTrue r ↔ (set_of w (f y) ≡ set_of w (f x)))
       → TellsChange (not r) (set_of_words w (map f items)) (set_of_words w (map f (set items k y)))
   word_tells true test = same_members _ _ (λ i. ⊎_elim
-      (λ at. in_new_word i at ∙ same_from_members w (f y) (f x) (test.0 refl) (i % w) (mod_below i w some) ∙ sym (in_old_word i at))
+      (λ at. in_new_word i at ∙ same_from_sets w (f y) (f x) (test.0 refl) (i % w) (mod_below i w some) ∙ sym (in_old_word i at))
       (λ apart. in_other_words i apart)
       (cases_eq (i / w) k))
   word_tells false test = ⊎_elim
@@ -105,7 +106,7 @@ module _ {X : Type 0} (f : X → ℕ) (w k : ℕ) (items : List X) (x y : X) (so
         in_new_word (k * w + j) place ∙ ap (is_one (f y)) digit ∙ found.1.1
             ∙ ap not (ap (is_one (f x)) (sym digit) ∙ sym (in_old_word (k * w + j) place)),
       ))
-      (λ agree. absurd (iff_false test refl (members_of-same w (f y) (f x) agree)))
+      (λ agree. absurd (iff_false test refl (set_of-same w (f y) (f x) agree)))
       (differ_or_agree (is_one (f y)) (is_one (f x)) w)
 
 -- ---- word after word
@@ -150,6 +151,7 @@ module _ (w : ℕ) (how : Combination) where
         any_true true = refl
         any_true false = refl
 
+    -- the word stayed as it was, so the answer stays too
     pub tells_unchanged : (a b c : Bool) → b ≡ false → c ≡ a → TellsChange a s old → TellsChange b old new → TellsChange c s new
     tells_unchanged a b c none is first second =
         subst (λ (r : Bool). TellsChange r s new) (ap (λ r. a || r) none ∙ any_false a ∙ sym is) (tells_more a b first second)
@@ -161,7 +163,7 @@ module _ (w : ℕ) (how : Combination) where
   -- one more word whose combination has no member
   pub none_more : (k m n r : ℕ) (s t : FinSet nat_cmp) → 0 < w → IsWordOf w s k m → IsWordOf w t k n
       → ((j : ℕ) → j < w → is_one r j ≡ combined how (is_one m j) (is_one n j))
-      → members_of w r ≡ []
+      → set_of w r ≡ empty
       → CombinesToNone w how k s t → CombinesToNone w how (k + 1) s t
   none_more k m n r s t some first second digits none before i below = ⊎_elim
       (λ at.
@@ -169,15 +171,15 @@ module _ (w : ℕ) (how : Combination) where
       let one : contains s i ≡ is_one m (i % w) = by_digit w s k m some first i at ∙ contains_below w m (i % w) low in
       let other : contains t i ≡ is_one n (i % w) = by_digit w t k n some second i at ∙ contains_below w n (i % w) low in
       ap (λ a. combined how a (contains t i)) one ∙ ap (combined how (is_one m (i % w))) other
-      ∙ sym (digits (i % w) low) ∙ none_from_members w r (i % w) none low)
+      ∙ sym (digits (i % w) low) ∙ none_from_empty w r (i % w) none low)
       (λ apart. before i (omega arith))
       (cases_eq (i / w) k)
 
   -- a word whose combination has a member
   pub none_not : (end k m n r : ℕ) (s t : FinSet nat_cmp) → k < end → IsWordOf w s k m → IsWordOf w t k n
       → ((j : ℕ) → j < w → is_one r j ≡ combined how (is_one m j) (is_one n j))
-      → CombinesToNone w how end s t → members_of w r ≡ []
-  none_not end k m n r s t below first second digits none = members_of-none w r (λ j low.
+      → CombinesToNone w how end s t → set_of w r ≡ empty
+  none_not end k m n r s t below first second digits none = set_of-none w r (λ j low.
       let place : (k * w + j) / w ≡ k = div-mul-add k w j low in
       let one : is_one m j ≡ contains s (k * w + j) = sym (contains_below w m j low) ∙ first j low in
       let other : is_one n j ≡ contains t (k * w + j) = sym (contains_below w n j low) ∙ second j low in
@@ -284,10 +286,12 @@ Summarizes-combined w how end words summary words' summary' t old small within d
 pub union_is : (s t r : FinSet nat_cmp) → ((i : ℕ) → contains r i ≡ combined Union (contains s i) (contains t i)) → r ≡ union s t
 union_is s t r each = same_members _ _ (λ i. each i ∙ sym (contains-union nat_cmp_total s t i))
 
+-- what is in both is the intersection
 pub intersection_is : (s t r : FinSet nat_cmp) → ((i : ℕ) → contains r i ≡ combined Intersection (contains s i) (contains t i))
     → r ≡ intersection s t
 intersection_is s t r each = same_members _ _ (λ i. each i ∙ sym (contains-intersection nat_cmp_total s t i))
 
+-- what is in the first alone is the difference
 pub difference_is : (s t r : FinSet nat_cmp) → ((i : ℕ) → contains r i ≡ combined Difference (contains s i) (contains t i))
     → r ≡ difference s t
 difference_is s t r each = same_members _ _ (λ i. each i ∙ sym (contains-difference nat_cmp_total s t i))

@@ -7,7 +7,8 @@ use Rattle.std.specs.Ordering.{nat_cmp}
 use Rattle.std.specs.FinSet.{FinSet, empty, contains, insert, remove}
 use Rattle.std.proofs.lemmas.Bool.{cases_eq, cases_lt, false_from_ne_true}
 use Rattle.std.proofs.lemmas.Bool.Decides.{nat_tests}
-use Rattle.wic_bitset.specs.Greatest.{IsGreatest, IsMax}
+use Rattle.wic_bitset.specs.Greatest.{IsMax}
+use Rattle.wic_scalar.specs.Extremes.{IsGreatest}
 use Rattle.wic_bitset.specs.Words.{EndsBefore, IsGreatestOfWord, IsWordEmpty}
 use Rattle.wic_bitset.proofs.DivisionFacts.{div_mono}
 use Rattle.wic_scalar.proofs.SetFacts.{empty_of_none, none_in_empty, remove_absent, there_after_insert, same_after_insert}
@@ -18,6 +19,7 @@ pub max-none : (s : FinSet nat_cmp) (r : Option ℕ) → IsMax s r → IsNone r 
 max-none s None none = (λ _. none, λ _. refl)
 max-none s (Some x) last = (λ no. absurd (cc), λ none. absurd (let no = none_in_empty s none x in let yes = last.member in cc))
 
+-- the same, by a test that is true where there is none
 pub max-none_test : (s : FinSet nat_cmp) (r : Option ℕ) (b : Bool) → IsMax s r → is_some r ≡ not b → IsTrue b ↔ (s ≡ empty)
 max-none_test s None true none test = (λ _. none, λ _. refl)
 max-none_test s None false none test = absurd (cc)

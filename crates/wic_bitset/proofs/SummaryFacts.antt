@@ -9,7 +9,8 @@ use Rattle.std.specs.Prelude.{All}
 use Rattle.wic_bitset.specs.Rising.{rising, word_members}
 use Rattle.wic_bitset.proofs.BetweenFacts.{All-between}
 use Rattle.wic_bitset.proofs.RisingFacts.{All-rising}
-use Rattle.wic_bitset.specs.Greatest.{IsGreatest, IsMax}
+use Rattle.wic_bitset.specs.Greatest.{IsMax}
+use Rattle.wic_scalar.specs.Extremes.{IsGreatest}
 use Rattle.wic_bitset.specs.Words.{Words, most_words, EndsBefore, IsMaxOfWord, IsWordEmpty}
 use Rattle.wic_bitset.specs.Summary.{Summarizes, block_words, filled_words}
 use Rattle.wic_bitset.proofs.ByWordFacts.{filled_words-empty}
@@ -162,6 +163,7 @@ module _ (w : ℕ) (words summary : Words) (sum : Summarizes w words summary) wh
 
 -- ---- the summary is the set of the words that have a member
 
+-- the summary has just the words that have a member
 pub summary_is_filled_words : (w : ℕ) (words summary : Words) → Summarizes w words summary
     → summary.members ≡ filled_words w words.members
 summary_is_filled_words w words summary sum = same_by_absence _ _
@@ -193,6 +195,7 @@ pub block_words-are : (w : ℕ) (words summary : Words) → Summarizes w words s
     → word_members w summary.members s ≡ block_words w words.members s
 block_words-are w words summary sum s = ap (λ t. word_members w t s) (summary_is_filled_words w words summary sum)
 
+-- the words of a block have their place in the set
 pub All-block_words : (w : ℕ) (words summary : Words) → Summarizes w words summary → (s : ℕ)
     → All (λ k. k < words.count) (block_words w words.members s)
 All-block_words w words summary sum s = All-between (λ k. k < words.count) (filled_words w words.members) (s * w) (s * w + w)

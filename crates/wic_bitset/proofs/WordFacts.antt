@@ -2,23 +2,23 @@
 use Rattle.std.proofs.Common.{⊎_elim, ◌≡◌, ◌≢◌, ℕ, zero, suc, ◌+◌, ◌*◌, ◌/◌, ◌%◌, ◌<◌, ◌≤◌, true, false, List, []}
 use Rattle.std.proofs.Common.{◌∷◌, ◌++◌, length-append, length, map, get_or, set, Option, Some, None, slice_get, refl, sym, ap, subst}
 use Rattle.std.proofs.Common.{◌∙◌, ◌↔◌, arith}
-use Rattle.std.specs.Prelude.{All, Contains}
 use Rattle.std.proofs.Common.{take, min, length-take}
 use Rattle.std.proofs.lemmas.List.{take-map, get_or-take}
 use Rattle.std.specs.Ordering.{nat_cmp}
 use Rattle.std.specs.Cmp.{nat_cmp_total}
 use Rattle.std.specs.FinSet.{FinSet, empty, contains, insert, remove, same_set, nat_cmp-IsAntisymmetric}
-use Rattle.std.proofs.lemmas.Bool.{cases_eq, cases_lt, false_from_ne_true}
-use Rattle.std.proofs.lemmas.List.Elements.{All-contains}
+use Rattle.std.proofs.lemmas.Bool.{cases_eq, cases_lt}
 use Rattle.std.proofs.lemmas.Bool.Decides.{nat_tests}
 use Rattle.std.proofs.lemmas.List.{length-map, map-append, get_or_at, get_or_append_left, get_or-set_same, get_or-set_other, map-set}
 use Rattle.std.proofs.lemmas.Nat.{div_below, mod_below, le-div, div-mul-add, mod-mul-add, div-add-mod'}
 use Rattle.wic_scalar.specs.Digits.{is_one}
-use Rattle.wic_scalar.specs.Scalar.{set_of, members_of}
+use Rattle.wic_scalar.specs.Extremes.{IsGreatest}
+use Rattle.wic_scalar.specs.Scalar.{set_of}
 use Rattle.wic_scalar.proofs.DigitLemmas.{is_one-zero}
-use Rattle.wic_scalar.proofs.MemberLemmas.{contains_below, contains-set_of, Contains-set_of, members_of-none, none_from_members}
+use Rattle.wic_scalar.proofs.MemberLemmas.{contains_below, none_from_empty}
+use Rattle.wic_scalar.proofs.SetLemmas.{set_of-none}
 use Rattle.wic_scalar.proofs.SetFacts.{contains-filter_range, empty_of_none, there_after_insert, same_after_insert, gone_after_remove}
-use Rattle.wic_scalar.proofs.SetFacts.{same_after_remove}
+use Rattle.wic_scalar.proofs.SetFacts.{none_in_empty, same_after_remove}
 use Rattle.wic_bitset.specs.Words.{has, set_of_words, AreFirstWords, EndsBefore, IsGreatestOfWord, IsWordOf, IsWordEmpty}
 
 -- ---- the compound set
@@ -28,6 +28,7 @@ past_end [] k past = refl
 past_end (x ∷ words) zero past = absurd (omega arith)
 past_end (x ∷ words) (suc k) past = past_end words k (omega arith)
 
+-- past its end a list has no element
 pub none_past : {X : Type 0} (items : List X) (k : ℕ) → length items ≤ k → slice_get items k ≡ None
 none_past [] k past = refl
 none_past (x ∷ items) zero past = absurd (omega arith)
@@ -38,17 +39,20 @@ value_or d None = d
 value_or d (Some v) = v
 
 module _ {X : Type 0} (f : X → ℕ) where
+  -- the number of word k
   pub map_at : (items : List X) (k : ℕ) (x : X) → slice_get items k ≡ Some x → get_or (map f items) k 0 ≡ f x
   unfolding value_or
   map_at [] k x found = absurd (cc)
   map_at (y ∷ items) zero x found = ap f (ap (value_or y) found)
   map_at (y ∷ items) (suc k) x found = map_at items k x found
 
+  -- past the last word it is 0
   pub map_past : (items : List X) (k : ℕ) → slice_get items k ≡ None → get_or (map f items) k 0 ≡ 0
   map_past [] k none = refl
   map_past (y ∷ items) zero none = absurd (cc)
   map_past (y ∷ items) (suc k) none = map_past items k none
 
+-- a number is a member where the digit of its word is 1
 pub contains-set_of_words : (w : ℕ) (words : List ℕ) (q : ℕ) → 0 < w → contains (set_of_words w words) q ≡ has w words q
 unfolding set_of_words
 contains-set_of_words w words q some = contains-filter_range (has w words) 0 (length words * w) q ∙ ⊎_elim
@@ -62,13 +66,14 @@ contains-set_of_words w words q some = contains-filter_range (has w words) 0 (le
 -- ---- word k becomes m
 
 module _ (w : ℕ) (words : List ℕ) (k m : ℕ) (some : 0 < w) (within : k < length words) where
-  -- a number of the word, now and before
+  -- a number of word k, now
   pub here_now : (q : ℕ) → q / w ≡ k → contains (set_of_words w (set words k m)) q ≡ contains (set_of w m) (q % w)
   here_now q here =
       let word : get_or (set words k m) (q / w) 0 ≡ m = ap (λ x. get_or (set words k m) x 0) here ∙ get_or-set_same words k m 0 within in
       contains-set_of_words w (set words k m) q some ∙ ap (λ x. is_one x (q % w)) word
       ∙ sym (contains_below w m (q % w) (mod_below q w some))
 
+  -- a number of word k, before
   pub here_before : (q : ℕ) → q / w ≡ k → contains (set_of_words w words) q ≡ contains (set_of w (get_or words k 0)) (q % w)
   here_before q here =
       contains-set_of_words w words q some ∙ ap (λ x. is_one (get_or words x 0) (q % w)) here
@@ -99,22 +104,25 @@ module _ (w : ℕ) (words : List ℕ) (k m : ℕ) (some : 0 < w) (within : k < l
 -- ---- what the calls of the plain set stand on
 
 module _ {X : Type 0} (f : X → ℕ) where
+  -- a number of a word is a member of the set where its place is a member of the word
   pub in_word : (w i : ℕ) (items : List X) (x : X) → 0 < w → slice_get items (i / w) ≡ Some x
       → contains (set_of_words w (map f items)) i ≡ contains (set_of w (f x)) (i % w)
   in_word w i items x some found =
       contains-set_of_words w (map f items) i some ∙ ap (λ n. is_one n (i % w)) (map_at f items (i / w) x found)
       ∙ sym (contains_below w (f x) (i % w) (mod_below i w some))
 
+  -- a number that has no word is no member
   pub in_no_word : (w i : ℕ) (items : List X) → 0 < w → slice_get items (i / w) ≡ None → contains (set_of_words w (map f items)) i ≡ false
   in_no_word w i items some none =
       contains-set_of_words w (map f items) i some ∙ ap (λ n. is_one n (i % w)) (map_past f items (i / w) none) ∙ is_one-zero (i % w)
 
+  -- a word that is found stands below the count of words
   pub below_length : (items : List X) (k : ℕ) (x : X) → slice_get items k ≡ Some x → k < length (map f items)
   below_length [] k x found = absurd (cc)
   below_length (y ∷ items) zero x found = omega arith
   below_length (y ∷ items) (suc k) x found = let rest = below_length items k x found in omega arith
 
-  -- i is put into its word, or taken out of it
+  -- i is put into its word, and so into the set
   pub put_in_word : (w i : ℕ) (items : List X) (x y : X) → 0 < w → slice_get items (i / w) ≡ Some x
       → set_of w (f y) ≡ insert (set_of w (f x)) (i % w)
       → set_of_words w (map f (set items (i / w) y)) ≡ insert (set_of_words w (map f items)) i
@@ -127,6 +135,7 @@ module _ {X : Type 0} (f : X → ℕ) where
       ∙ ap (λ n. contains (set_of w n) d) (sym (map_at f items (i / w) x found)))
       (same_after_insert old i)
 
+  -- i is taken out of its word, and so of the set
   pub take_from_word : (w i : ℕ) (items : List X) (x y : X) → 0 < w → slice_get items (i / w) ≡ Some x
       → set_of w (f y) ≡ remove (set_of w (f x)) (i % w)
       → set_of_words w (map f (set items (i / w) y)) ≡ remove (set_of_words w (map f items)) i
@@ -160,31 +169,35 @@ module _ {X : Type 0} (f : X → ℕ) where
       sym (in_word f w (k * w + j) items x some (subst (λ q. slice_get items q ≡ Some x) (sym place) found)
       ∙ ap (contains (set_of w (f x))) digit)
 
+  -- a word is the empty set where no member stands in it
   pub word_is_empty : (w k : ℕ) (items : List X) (x : X) → 0 < w → slice_get items k ≡ Some x
-      → (members_of w (f x) ≡ []) ↔ IsWordEmpty w (set_of_words w (map f items)) k
+      → (set_of w (f x) ≡ empty) ↔ IsWordEmpty w (set_of_words w (map f items)) k
   word_is_empty w k items x some found = (
     λ none i at.
-        let digit : is_one (f x) (i % w) ≡ false = none_from_members w (f x) (i % w) none (mod_below i w some) in
+        let digit : is_one (f x) (i % w) ≡ false = none_from_empty w (f x) (i % w) none (mod_below i w some) in
         in_word f w i items x some (subst (λ q. slice_get items q ≡ Some x) (sym at) found)
         ∙ contains_below w (f x) (i % w) (mod_below i w some) ∙ digit,
-    λ none. members_of-none w (f x)
+    λ none. set_of-none w (f x)
         (λ j low. sym (contains_below w (f x) j low) ∙ word_of w k items x found j low ∙ none (k * w + j) (div-mul-add k w j low)),
   )
 
+  -- no member stands in a word that is not there
   pub no_word_is_empty : (w k : ℕ) (items : List X) → 0 < w → slice_get items k ≡ None → IsWordEmpty w (set_of_words w (map f items)) k
   no_word_is_empty w k items some none i at = in_no_word f w i items some (subst (λ q. slice_get items q ≡ None) (sym at) none)
 
   -- where there is no word k, a word without members is word k
-  pub no_word_of : (w k : ℕ) (items : List X) (n : ℕ) → slice_get items k ≡ None → members_of w n ≡ []
+  pub no_word_of : (w k : ℕ) (items : List X) (n : ℕ) → slice_get items k ≡ None → set_of w n ≡ empty
       → IsWordOf w (set_of_words w (map f items)) k n
   no_word_of w k items n none clear j low =
       let some : 0 < w = omega arith in
-      contains_below w n j low ∙ none_from_members w n j clear low
+      contains_below w n j low ∙ none_from_empty w n j clear low
       ∙ sym (no_word_is_empty w k items some none (k * w + j) (div-mul-add k w j low))
 
+  -- a member stands below the count of words times the width
   pub within_words : (w i : ℕ) (items : List X) → 0 < w → contains (set_of_words w (map f items)) i ≡ true → i < length items * w
   within_words w i items some there = subst (λ n. i < n * w) (length-map items f) (below_capacity w (map f items) i some there)
 
+  -- so each member has a word
   pub ends_of_words : (w : ℕ) (items : List X) → 0 < w → EndsBefore w (set_of_words w (map f items)) (length items)
   ends_of_words w items some i there = div_below i w (length items) some (within_words w i items some there)
 
@@ -203,12 +216,13 @@ has_more w words m q some none = ⊎_elim
     (cases_eq (q / w) (length words)))
     (cases_lt (q / w) (length words))
 
-pub set_of_words-push : {X : Type 0} (f : X → ℕ) (w : ℕ) (items : List X) (y : X) → 0 < w → members_of w (f y) ≡ []
+-- one more word with no member leaves the set as it was
+pub set_of_words-push : {X : Type 0} (f : X → ℕ) (w : ℕ) (items : List X) (y : X) → 0 < w → set_of w (f y) ≡ empty
     → set_of_words w (map f (items ++ y ∷ [])) ≡ set_of_words w (map f items)
 set_of_words-push f w items y some none =
     ap (set_of_words w) (map-append f items (y ∷ [])) ∙ same_set nat_cmp_total nat_cmp-IsAntisymmetric _ _ (λ q.
     contains-set_of_words w (map f items ++ f y ∷ []) q some
-    ∙ has_more w (map f items) (f y) q some (λ j low. none_from_members w (f y) j none low)
+    ∙ has_more w (map f items) (f y) q some (λ j low. none_from_empty w (f y) j none low)
     ∙ sym (contains-set_of_words w (map f items) q some))
 
 -- no words have no member
@@ -235,19 +249,6 @@ first_words_of f w n items k below =
 
 -- ---- the members in one word, by its digits
 
--- the greatest of the list is the greatest of the set
-greatest_of_set : (w n x : ℕ) → Contains (members_of w n) x → All (λ k. k ≤ x) (members_of w n)
-    → (contains (set_of w n) x ≡ true) × ((j : ℕ) → x < j → contains (set_of w n) j ≡ false)
-greatest_of_set w n x has greatest = (
-  (Contains-set_of w n x).0 has,
-  λ j after. false_from_ne_true (contains (set_of w n) j)
-      (λ yes. let at : j ≤ x = All-contains (λ k. k ≤ x) (members_of w n) j greatest ((Contains-set_of w n j).1 yes) in omega arith),
-)
-
--- a set with no members in its list is empty
-none_of_set : (w n j : ℕ) → members_of w n ≡ [] → j < w → contains (set_of w n) j ≡ false
-none_of_set w n j none low = contains_below w n j low ∙ none_from_members w n j none low
-
 module _ (w : ℕ) (s : FinSet nat_cmp) (k n : ℕ) (some : 0 < w) (word : IsWordOf w s k n) where
   -- a number of the word by its digit
   pub by_digit : (i : ℕ) → i / w ≡ k → contains s i ≡ contains (set_of w n) (i % w)
@@ -255,17 +256,18 @@ module _ (w : ℕ) (s : FinSet nat_cmp) (k n : ℕ) (some : 0 < w) (word : IsWor
       let place : i ≡ k * w + i % w = sym (div-add-mod' i w) ∙ ap (λ k. k * w + i % w) at in
       ap (contains s) place ∙ sym (word (i % w) (mod_below i w some))
 
-  pub empty_word : members_of w n ≡ [] → IsWordEmpty w s k
-  empty_word none i at = by_digit i at ∙ none_of_set w n (i % w) none (mod_below i w some)
+  -- where the digits of word k are none, no member stands in it
+  pub empty_word : set_of w n ≡ empty → IsWordEmpty w s k
+  empty_word none i at = by_digit i at ∙ none_in_empty (set_of w n) none (i % w)
 
-  pub greatest_of_word : (x : ℕ) → x < w → Contains (members_of w n) x → All (λ j. j ≤ x) (members_of w n)
-      → IsGreatestOfWord w s k (k * w + x)
-  greatest_of_word x low there above =
-      let last = greatest_of_set w n x there above in record {
-        member = sym (word x low) ∙ last.0;
-        word = div-mul-add k w x low;
-        greatest = λ i at has. ⊎_elim
-            (λ beyond. absurd (let no = by_digit i at ∙ last.1 (i % w) beyond in cc))
-            (λ le. let place = div-add-mod' i w in let start : i / w * w ≡ k * w = ap (λ k. k * w) at in omega arith)
-            (cases_lt x (i % w));
-      }
+  -- the greatest place of word k is the greatest member in it
+  pub greatest_of_word : (x : ℕ) → x < w → IsGreatest (set_of w n) x → IsGreatestOfWord w s k (k * w + x)
+  greatest_of_word x low last = record {
+    member = sym (word x low) ∙ last.member;
+    word = div-mul-add k w x low;
+    greatest = λ i at has.
+        let below : i % w ≤ x = last.greatest (i % w) (sym (by_digit i at) ∙ has) in
+        let place = div-add-mod' i w in
+        let start : i / w * w ≡ k * w = ap (λ k. k * w) at in
+        omega arith;
+  }

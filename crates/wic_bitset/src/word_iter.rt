@@ -5,6 +5,7 @@ ghost use Rattle.wic_bitset.specs.Words.{greatest_start};
 ghost use Rattle.wic_scalar.specs.Scalar.{members_of};
 
 use std::marker::Model;
+use wic_scalar::scalar::Iter;
 use wic_scalar::{ScalarBitSet, ScalarBitSetStorage};
 
 /// A walk over the members in one word, rising, seen as the list of those that are left.
@@ -13,17 +14,16 @@ pub struct WordIter<T: ScalarBitSetStorage> {
     // The number for which place 0 of the word stands.
     start: usize,
     // The places that are left.
-    word: ScalarBitSet<T>,
+    places: Iter<T>,
 }
 
 impl<T: ScalarBitSetStorage> Model for WordIter<T> {
     ghost use Rattle.std.specs.Prelude.{ℕ, List, ◌+◌, ◌≤◌, map};
-    ghost use Rattle.wic_scalar.specs.Scalar.{members_of};
     ghost use Rattle.wic_bitset.specs.Words.{greatest_start};
 
     ghost Value = { List ℕ };
 
-    ghost view = { λ it. map (λ j. it.start + j) (members_of T.width (T.number it.word.0)) };
+    ghost view = { λ it. map (λ j. it.start + j) it.places };
 
     ghost invariant = { λ it. it.start ≤ greatest_start };
 }
@@ -35,7 +35,10 @@ impl<T: ScalarBitSetStorage> WordIter<T> {
         requires { start ≤ greatest_start }
         ensures { result ≡ map (λ j. start + j) (members_of T.width (T.number word.0)) }
     {
-        WordIter { start, word }
+        WordIter {
+            start,
+            places: word.iter(),
+        }
     }
 
     /// Over no members.
@@ -52,7 +55,7 @@ impl<T: ScalarBitSetStorage> WordIter<T> {
         ensures count { result ≡ length self.now }
         ensures few { result ≤ 255 }
     {
-        usize::from(self.word.len())
+        self.places.len()
     }
 }
 
@@ -65,7 +68,7 @@ impl<T: ScalarBitSetStorage> Iterator for WordIter<T> {
 
     #[inline]
     fn next(&mut self) -> Option<usize> {
-        match self.word.pop_min() {
+        match self.places.next() {
             Some(place) => Some(self.start + usize::from(place)),
             None => None,
         }

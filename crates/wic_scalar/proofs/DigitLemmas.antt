@@ -18,12 +18,15 @@ pub digit_cases : (n i : ℕ) → ((bit_at n i ≡ 1) × (is_one n i ≡ true)) 
 unfolding is_one
 digit_cases n i = let b : bit_at n i < 2 = bit_at-lt n i in grind (arith, nat_tests)
 
+-- 0 has no digit 1
 pub is_one-zero : (i : ℕ) → is_one 0 i ≡ false
 is_one-zero i = let z = bit_at-zero i in grind (arith, digit_cases 0 i)
 
+-- a digit of `a & b`
 pub is_one-bit_and : (a b i : ℕ) → is_one (bit_and a b) i ≡ (is_one a i && is_one b i)
 is_one-bit_and a b i = let e = bit_at_and a b i in grind (arith, digit_cases (bit_and a b) i, digit_cases a i, digit_cases b i)
 
+-- a digit of `a | b`
 pub is_one-bit_or : (a b i : ℕ) → is_one (bit_or a b) i ≡ (is_one a i || is_one b i)
 is_one-bit_or a b i = let e = bit_at_or a b i in grind (arith, digit_cases (bit_or a b) i, digit_cases a i, digit_cases b i)
 
@@ -64,6 +67,7 @@ is_one-complement w n i fits below =
     (digit_cases n i))
     (digit_cases (2 ^ w - 1 - n) i)
 
+-- numbers below 2 ^ w with the same w digits are the same
 pub same_from_digits : (w a b : ℕ) → a < 2 ^ w → b < 2 ^ w → SameDigits w a b → a ≡ b
 same_from_digits w a b p q same =
     same_from_bits_below w a b p q (λ i below. let e = same i below in grind (arith, digit_cases a i, digit_cases b i))
@@ -74,6 +78,7 @@ is_one-suc n i = let e = bit_at-suc n i in grind (arith, digit_cases n (suc i), 
 is_one-lowest : (n : ℕ) → ((n % 2 ≡ 1) × (is_one n 0 ≡ true)) ⊎ ((n % 2 ≡ 0) × (is_one n 0 ≡ false))
 is_one-lowest n = let e = bit_at_lowest n in grind (arith, digit_cases n 0)
 
+-- std's count of zeros at the low end is the number of digits 0 below the lowest digit 1
 pub IsLowZeros-count : (w n : ℕ) → IsLowZeros w n (count_trailing_zeros w n)
 unfolding count_trailing_zeros
 IsLowZeros-count zero n = record { within = omega arith; zeros = λ i h. absurd (omega arith); one = λ h. absurd (omega arith) }
@@ -105,6 +110,7 @@ highest_one n j low high =
     let q : n / 2 ^ j ≡ 1 = omega arith in
     rw q refl
 
+-- and that at the high end the number of those above the highest
 pub IsHighZeros-count : (w n : ℕ) → n < 2 ^ w → IsHighZeros w n (count_leading_zeros w n)
 IsHighZeros-count w n fits = ⊎_elim
     (λ none. subst (λ m. IsHighZeros w m (count_leading_zeros w m)) (sym none) (IsHighZeros-zero w))
@@ -120,6 +126,7 @@ IsHighZeros-count w n fits = ⊎_elim
     })
     (eq-zero-or-pos n)
 
+-- numbers below 2 ^ w are equal where their w digits are
 pub equal_digits : (w a b : ℕ) → a < 2 ^ w → b < 2 ^ w → (IsTrue (nat_eq a b) ↔ SameDigits w a b)
 equal_digits w a b p q = (
   λ same i _. let e : a ≡ b = grind (arith, nat_tests) in ap (λ n. is_one n i) e,
@@ -147,5 +154,6 @@ top_digit n k h = ⊎_elim
 pub low_zeros : (w n : ℕ) → (count_trailing_zeros w n ≡ count_trailing_zeros w n) × IsLowZeros w n (count_trailing_zeros w n)
 low_zeros w n = (refl, IsLowZeros-count w n)
 
+-- the same for the count at the high end
 pub high_zeros : (w n : ℕ) → n < 2 ^ w → (count_leading_zeros w n ≡ count_leading_zeros w n) × IsHighZeros w n (count_leading_zeros w n)
 high_zeros w n fits = (refl, IsHighZeros-count w n fits)

@@ -7,7 +7,7 @@ use Rattle.std.specs.List.Sorted.{IsStrictlyIncreasing}
 use Rattle.std.specs.List.{filter, range_with_len, list_any}
 use Rattle.std.specs.Ordering.{nat_cmp, eq_by_cmp}
 use Rattle.std.specs.Cmp.{nat_cmp_total, unsigned_tied}
-use Rattle.std.specs.FinSet.{FinSet, contains, insert, remove, from_list, same_set, contains-insert, contains-remove}
+use Rattle.std.specs.FinSet.{FinSet, empty, contains, insert, remove, same_set, contains-insert, contains-remove}
 use Rattle.std.specs.FinSet.{contains-from_list_nat, nat_cmp-IsAntisymmetric}
 use Rattle.std.proofs.lemmas.Bool.{cases_eq, cases_lt, cases_Bool, false_from_ne_true, and_parts, ltb-true}
 use Rattle.std.proofs.lemmas.Bool.Decides.{nat_tests}
@@ -20,7 +20,9 @@ use Rattle.std.proofs.Math.Nat.{pow-suc}
 use lib.Count.{ones, ones-ones}
 use Rattle.wic_scalar.specs.Digits.{is_one, SameDigits, IsLowZeros, IsHighZeros}
 use Rattle.wic_scalar.specs.Scalar.{members_of, set_of}
+use Rattle.wic_scalar.specs.Extremes.{IsGreatest, IsLeast}
 use Rattle.wic_scalar.proofs.DigitLemmas.{is_one-mod, top_digit}
+use Rattle.wic_scalar.proofs.SetFacts.{none_in_empty}
 
 -- ---- a range that a test filters
 
@@ -169,32 +171,29 @@ range_append a (suc m) n =
     let f : a + 1 + m ≡ a + suc m = omega arith in
     rw e (ap (λ xs. a ∷ xs) (range_append (a + 1) m n ∙ ap (λ b. range_with_len (a + 1) m ++ range_with_len b n) f))
 
+-- numbers with the same digits have the same members
 pub members_of-same : (w m n : ℕ) → SameDigits w m n → members_of w m ≡ members_of w n
 unfolding members_of
 members_of-same w m n same = filter_agree_in (is_one m) (is_one n) 0 w (λ i _ h. same i (omega arith))
 
+-- a number with no digit 1 has no members
 pub members_of-none : (w n : ℕ) → ((i : ℕ) → i < w → is_one n i ≡ false) → members_of w n ≡ []
 unfolding members_of
 members_of-none w n none = filter_none_in (is_one n) 0 w (λ i _ h. none i (omega arith))
 
-digit_from_set : (w m n i : ℕ) → members_of w m ≡ members_of w n → i < w → is_one m i ≡ is_one n i
-digit_from_set w m n i same below =
-    let s : set_of w m ≡ set_of w n = ap from_list same in
-    let e : contains (set_of w m) i ≡ contains (set_of w n) i = ap (λ t. contains t i) s in
-    let p = contains-set_of w m i in
-    let q = contains-set_of w n i in
-    grind (arith, nat_tests)
+-- two numbers with the same set have the same digits
+pub same_from_sets : (w m n : ℕ) → set_of w m ≡ set_of w n → SameDigits w m n
+same_from_sets w m n same i below = sym (contains_below w m i below) ∙ ap (λ t. contains t i) same ∙ contains_below w n i below
 
-pub same_from_members : (w m n : ℕ) → members_of w m ≡ members_of w n → SameDigits w m n
-same_from_members w m n same i below = digit_from_set w m n i same below
+-- a number with the empty set has no digit 1
+pub none_from_empty : (w n i : ℕ) → set_of w n ≡ empty → i < w → is_one n i ≡ false
+none_from_empty w n i none below = sym (contains_below w n i below) ∙ none_in_empty (set_of w n) none i
 
-pub none_from_members : (w n i : ℕ) → members_of w n ≡ [] → i < w → is_one n i ≡ false
-none_from_members w n i none below =
-    let e : contains (set_of w n) i ≡ contains (from_list {R = nat_cmp} []) i = ap (λ t. contains (from_list {R = nat_cmp} t) i) none in
-    let z : contains (from_list {R = nat_cmp} []) i ≡ false = contains-from_list_nat [] i in
-    let p = contains-set_of w n i in
-    grind (arith, nat_tests)
+-- an empty set has the empty list of members
+pub no_members_of_empty : (w n : ℕ) → set_of w n ≡ empty → members_of w n ≡ []
+no_members_of_empty w n none = members_of-none w n (λ i h. none_from_empty w n i none h)
 
+-- the members rise
 pub rising-members_of : (w n : ℕ) → IsStrictlyIncreasing (members_of w n)
 unfolding members_of
 rising-members_of w n =
@@ -246,6 +245,7 @@ All-members_of P w n each = go 0 w (λ i low high one. each i (omega arith) one)
 range_push : (a n : ℕ) → range_with_len a (suc n) ≡ range_with_len a n ++ (a + n) ∷ []
 range_push a n = let e : suc n ≡ n + 1 = omega arith in ap (range_with_len a) e ∙ range_append a n 1
 
+-- there are as many members as digits 1
 pub count-members_of : (w n : ℕ) → n < 2 ^ w → ones n ≡ length (members_of w n)
 unfolding members_of
 count-members_of zero n fits = let e : n ≡ 0 = omega arith in ap ones e ∙ ones-ones 0
@@ -275,6 +275,7 @@ count-members_of (suc w) n fits =
 
 -- ---- which numbers are members
 
+-- a place whose digit is 1 is a member
 pub member : (w n k : ℕ) → k < w → is_one n k ≡ true → Contains (members_of w n) k
 unfolding members_of
 member w n k within one =
@@ -284,6 +285,7 @@ member w n k within one =
     Contains-from_any {eq = λ x y. nat_eq y x} (λ x y e. grind (arith, nat_tests)) k (filter (is_one n) (range_with_len 0 w))
     (grind (arith, nat_tests))
 
+-- the members are the places whose digit is 1
 pub Contains-members_of : (w n k : ℕ) → (Contains (members_of w n) k ↔ ((k < w) × (is_one n k ≡ true)))
 Contains-members_of w n k = (
   λ has. All-contains (λ i. (i < w) × (is_one n i ≡ true)) (members_of w n) k
@@ -300,19 +302,24 @@ Contains-set_of w n k =
           member w n k (ltb-true k w parts.0) parts.1,
     )
 
-pub least_member : (w n z : ℕ) → IsLowZeros w n z → z < w → Contains (members_of w n) z × All (λ k. z ≤ k) (members_of w n)
-least_member w n z low within = (
-  member w n z within (low.one within),
-  All-members_of (λ k. z ≤ k) w n
-      (λ i h one. ⊎_elim (λ below. let none = low.zeros i below in absurd (cc)) (λ above. above) (cases_lt i z)),
-)
+-- where z digits 0 stand below the lowest digit 1, z is the least member
+pub least_member : (w n z : ℕ) → IsLowZeros w n z → z < w → IsLeast (set_of w n) z
+least_member w n z low within = record {
+  member = contains_below w n z within ∙ low.one within;
+  least = λ i there.
+      let one : is_one n i ≡ true = sym (contains_below w n i (below_width w n i there)) ∙ there in
+      ⊎_elim (λ below. let none = low.zeros i below in absurd (cc)) (λ above. above) (cases_lt i z);
+}
 
-pub greatest_member : (w n y z : ℕ) → IsHighZeros w n y → z + y + 1 ≡ w → Contains (members_of w n) z × All (λ k. k ≤ z) (members_of w n)
-greatest_member w n y z high at = (
-  member w n z (omega arith) (high.one z at),
-  All-members_of (λ k. k ≤ z) w n
-      (λ i h one. ⊎_elim (λ above. let none = high.zeros i (omega arith) h in absurd (cc)) (λ below. below) (cases_lt z i)),
-)
+-- where y digits 0 stand above the highest digit 1, the place below them is the greatest member
+pub greatest_member : (w n y z : ℕ) → IsHighZeros w n y → z + y + 1 ≡ w → IsGreatest (set_of w n) z
+greatest_member w n y z high at = record {
+  member = contains_below w n z (omega arith) ∙ high.one z at;
+  greatest = λ i there.
+      let within : i < w = below_width w n i there in
+      let one : is_one n i ≡ true = sym (contains_below w n i within) ∙ there in
+      ⊎_elim (λ above. let none = high.zeros i (omega arith) within in absurd (cc)) (λ below. below) (cases_lt z i);
+}
 
 -- ---- one member taken out
 
@@ -327,24 +334,35 @@ digit_without w n m x i taken below =
     grind (arith, nat_tests)
 
 -- the least member stood first
-pub members_of-first : (w n m x : ℕ) → Contains (members_of w n) x → All (λ k. x ≤ k) (members_of w n)
-    → set_of w m ≡ remove (set_of w n) x → members_of w n ≡ x ∷ members_of w m
+pub least_stands_first : (w n m x : ℕ) → IsLeast (set_of w n) x → set_of w m ≡ remove (set_of w n) x
+    → members_of w n ≡ x ∷ members_of w m
 unfolding members_of
-members_of-first w n m x has least taken =
-    let here = (Contains-members_of w n x).0 has in
-    filter_first (is_one n) (is_one m) x 0 w (omega arith) (omega (arith, here.0)) here.1
+least_stands_first w n m x least taken =
+    let here : x < w = below_width w n x least.member in
+    filter_first (is_one n) (is_one m) x 0 w (omega arith) (omega arith) (sym (contains_below w n x here) ∙ least.member)
     (λ i _ before. false_from_ne_true (is_one n i)
-    (λ one. let at : x ≤ i = All-contains (λ k. x ≤ k) (members_of w n) i least (member w n i (omega (arith, here.0)) one) in
-    omega arith))
+    (λ one. let at : x ≤ i = least.least i (contains_below w n i (omega arith) ∙ one) in omega arith))
     (λ i _ h. digit_without w n m x i taken (omega arith))
 
 -- the greatest member stood last
-pub members_of-last : (w n m x : ℕ) → Contains (members_of w n) x → All (λ k. k ≤ x) (members_of w n)
-    → set_of w m ≡ remove (set_of w n) x → members_of w n ≡ members_of w m ++ x ∷ []
+pub greatest_stands_last : (w n m x : ℕ) → IsGreatest (set_of w n) x → set_of w m ≡ remove (set_of w n) x
+    → members_of w n ≡ members_of w m ++ x ∷ []
 unfolding members_of
-members_of-last w n m x has greatest taken =
-    let here = (Contains-members_of w n x).0 has in
-    filter_last (is_one n) (is_one m) x 0 w (omega arith) (omega (arith, here.0)) here.1
+greatest_stands_last w n m x greatest taken =
+    let here : x < w = below_width w n x greatest.member in
+    filter_last (is_one n) (is_one m) x 0 w (omega arith) (omega arith) (sym (contains_below w n x here) ∙ greatest.member)
     (λ i after h. false_from_ne_true (is_one n i)
-    (λ one. let at : i ≤ x = All-contains (λ k. k ≤ x) (members_of w n) i greatest (member w n i (omega arith) one) in omega arith))
+    (λ one. let at : i ≤ x = greatest.greatest i (contains_below w n i (omega arith) ∙ one) in omega arith))
     (λ i _ h. digit_without w n m x i taken (omega arith))
+
+-- so the list is one shorter
+pub one_shorter : (w n m x : ℕ) → IsGreatest (set_of w n) x → set_of w m ≡ remove (set_of w n) x
+    → length (members_of w n) ≡ length (members_of w m) + 1
+one_shorter w n m x greatest taken =
+    ap length (greatest_stands_last w n m x greatest taken) ∙ length-append (members_of w m) (x ∷ [])
+
+-- what a step of a walk stands on, at its front
+pub ruleset front_step = (least_stands_first, no_members_of_empty)
+
+-- and at its back
+pub ruleset back_step = (greatest_stands_last, one_shorter, no_members_of_empty)

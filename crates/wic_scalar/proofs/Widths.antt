@@ -12,11 +12,17 @@ use Rattle.wic_scalar.proofs.DigitLemmas.{is_one-complement, equal_digits, IsLow
 -- what `1 << i`, `MAX >> (w - n)`, `!n`, `a == b` and the counts give at w digits. `x ≡ x` says nothing: it shows `grind` the count to
 -- match
 pub record Laws (w : ℕ) : Type 0 where
+  -- `1 << i` has the digit i alone
   pub bit : (i k : ℕ) → i < w → is_one (1 * 2 ^ i % 2 ^ w) k ≡ (k == i)
+  -- `MAX >> (w - n)` has the digits below n
   pub below : (n k : ℕ) → n ≤ w → is_one ((2 ^ w - 1) / 2 ^ (w - n)) k ≡ nat_lt k n
+  -- `!n` has each digit turned round
   pub complement : (n i : ℕ) → n < 2 ^ w → i < w → is_one (2 ^ w - 1 - n) i ≡ not (is_one n i)
+  -- `a == b` tells whether all digits are the same
   pub equal : (a b : ℕ) → a < 2 ^ w → b < 2 ^ w → (IsTrue (nat_eq a b) ↔ SameDigits w a b)
+  -- `leading_zeros` counts the zeros at the high end
   pub high : (n : ℕ) → n < 2 ^ w → (count_leading_zeros w n ≡ count_leading_zeros w n) × IsHighZeros w n (count_leading_zeros w n)
+  -- `count_ones` counts the digits 1
   pub count : (n : ℕ) → n < 2 ^ w → ones n ≡ length (members_of w n)
 
 laws : (w : ℕ) → Laws w
@@ -33,27 +39,37 @@ laws w = record {
 -- those that hold at any width
 pub ruleset any_width = (is_one-zero, is_one-bit_and, is_one-bit_or, low_zeros, leading_le, trailing_le, ones-le)
 
+-- the laws at 8 digits
 pub at_8 : Laws 8
 at_8 = laws 8
 
+-- all that `grind` reads at 8 digits
 pub ruleset laws_8 = (any_width, at_8)
 
+-- the laws at 16 digits
 pub at_16 : Laws 16
 at_16 = laws 16
 
+-- all that `grind` reads at 16 digits
 pub ruleset laws_16 = (any_width, at_16)
 
+-- the laws at 32 digits
 pub at_32 : Laws 32
 at_32 = laws 32
 
+-- all that `grind` reads at 32 digits
 pub ruleset laws_32 = (any_width, at_32)
 
+-- the laws at 64 digits
 pub at_64 : Laws 64
 at_64 = laws 64
 
+-- all that `grind` reads at 64 digits
 pub ruleset laws_64 = (any_width, at_64)
 
+-- the laws at 128 digits
 pub at_128 : Laws 128
 at_128 = laws 128
 
+-- all that `grind` reads at 128 digits
 pub ruleset laws_128 = (any_width, at_128)

@@ -1,3 +1,4 @@
 pub mod Digits
+pub mod Extremes
 pub mod Laws
 pub mod Scalar

@@ -1,5 +1,5 @@
 //! A walk over the members of a set.
-ghost use Rattle.std.specs.Prelude.{◌≡◌, length, IfSome, Some};
+ghost use Rattle.std.specs.Prelude.{◌≡◌, ◌≤◌, length, IfSome, Some};
 ghost use Rattle.std.specs.Iterator.{YieldsFirst, YieldsLast, item_count, at_most, UpTo};
 ghost use Rattle.std.specs.Iterator.SizeHint.{IsWithinCount};
 
@@ -34,6 +34,7 @@ impl<T: ScalarBitSetStorage> Iterator for Iter<T> {
     ghost remaining = { item_count (λ rest. rest) };
 
     #[inline]
+    #[tactic(auto, using(crate::proofs::MemberLemmas::front_step))]
     fn next(&mut self) -> Option<u8> {
         self.bitset.pop_min()
     }
@@ -53,6 +54,7 @@ impl<T: ScalarBitSetStorage> DoubleEndedIterator for Iter<T> {
     ghost next_back_gives = { YieldsLast (λ rest. rest) };
 
     #[inline]
+    #[tactic(auto, using(crate::proofs::MemberLemmas::back_step))]
     fn next_back(&mut self) -> Option<u8> {
         self.bitset.pop_max()
     }
@@ -60,7 +62,11 @@ impl<T: ScalarBitSetStorage> DoubleEndedIterator for Iter<T> {
 
 impl<T: ScalarBitSetStorage> ExactSizeIterator for Iter<T> {
     #[inline]
-    fn len(&self) -> usize {
+    #[tactic(auto, using(crate::proofs::SetLemmas::as_many_listed))]
+    fn len(&self) -> usize
+        ensures value { result ≡ length self.now }
+        ensures within { result ≤ T.width }
+    {
         usize::from(self.bitset.len())
     }
 }

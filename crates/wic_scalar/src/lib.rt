@@ -10,17 +10,18 @@
 //! ```
 //! // The least number that isn't used yet is taken, where there is one.
 //! pub fn take_least<T: ScalarBitSetStorage>(free: &mut ScalarBitSet<T>) -> Option<u8>
-//!     ensures none { IsNone result ↔ (members_of T.width (T.number free.old.0) ≡ []) }
+//!     ensures none { IsNone result ↔ (set_of T.width (T.number free.old.0) ≡ fin_set.empty) }
+//!     ensures least { IfSome result (IsLeast (set_of T.width (T.number free.old.0))) }
 //!     ensures taken { IfSome result (λ x. set_of T.width (T.number free.new.0)
-//!         ≡ remove (set_of T.width (T.number free.old.0)) x) }
+//!         ≡ fin_set.remove (set_of T.width (T.number free.old.0)) x) }
 //!     ensures within { IfSome result (λ x. x < T.width) }
 //! {
 //!     free.pop_min()
 //! }
 //! ```
 //!
-//! A clause of a walk sees the rising list of the members, `members_of`, and other clauses see that list or the set
-//! `set_of`; [`law_members`] says that the two are the same members. No call takes memory, and none is refused.
+//! A clause sees a set by one view, the finite set `set_of` of its number; a walk is seen as the rising list of what is left,
+//! `members_of`. [`law_members`] says that the two have the same members. No call takes memory, and none is refused.
 //!
 //! # What it doesn't protect against
 //!

@@ -1,20 +1,21 @@
 //! A set of small numbers in one integer.
-ghost use Rattle.std.specs.Prelude.{◌≡◌, ◌==◌, ◌↔◌, ◌+◌, ◌-◌, ◌<◌, ◌≤◌, ℕ, nat_eq, List, [], ◌∷◌, ◌++◌, length};
-ghost use Rattle.std.specs.Prelude.{not, if◌then◌else◌, IsTrue, IsNone, IfNone, IfSome, All, Contains};
+ghost use Rattle.std.specs.Prelude.{◌≡◌, ◌==◌, ◌↔◌, ◌+◌, ◌-◌, ◌<◌, ◌≤◌, nat_eq, true};
+ghost use Rattle.std.specs.Prelude.{not, if◌then◌else◌, IsTrue, IsNone, IfNone, IfSome, All};
 ghost use Rattle.std.specs.List.{range_with_len};
 ghost use Rattle.std.specs.List.Sorted.{IsStrictlyIncreasing};
 ghost use Rattle.std.specs.Cmp.{on_equiv, on_per, partial_equiv_from_equiv};
 ghost use Rattle.std.specs.Cmp.Lexicographic.{pointwise, nat_list_eq_equiv};
 ghost use Rattle.std.specs.Ordering.{on};
 ghost use Rattle.std.specs.FinSet as fin_set;
+ghost use Rattle.wic_scalar.specs.Extremes.{IsGreatest, IsLeast};
 ghost use Rattle.wic_scalar.specs.Scalar.{members_of, set_of};
 
 use crate::iter::Iter;
 use crate::storage::ScalarBitSetStorage;
 
 /// A set of numbers below the width of `T`: the places of the number whose digit in base two is 1.
-/// A clause sees it as the rising list `members_of` or, where the order is idle, as the set
-/// `set_of`. No call but a walk looks at one place after another.
+/// A clause sees it as the finite set `set_of`, and a walk as the rising list of its members,
+/// `members_of`. No call but a walk looks at one place after another.
 ///
 /// A port of `cranelift_bitset::ScalarBitSet`.
 #[derive(Clone, Copy)]
@@ -24,7 +25,7 @@ impl<T: ScalarBitSetStorage> ScalarBitSet<T> {
     /// The empty set. A port of `ScalarBitSet::new`.
     #[inline]
     pub fn new() -> Self
-        ensures { members_of T.width (T.number result.0) ≡ [] }
+        ensures { set_of T.width (T.number result.0) ≡ fin_set.empty }
     {
         Self(T::zero())
     }
@@ -35,7 +36,7 @@ impl<T: ScalarBitSetStorage> ScalarBitSet<T> {
     pub fn from_range(lo: u8, hi: u8) -> Self
         requires ordered { lo ≤ hi }
         requires within { hi ≤ T.width }
-        ensures { members_of T.width (T.number result.0) ≡ range_with_len lo (hi - lo) }
+        ensures { set_of T.width (T.number result.0) ≡ fin_set.from_list (range_with_len lo (hi - lo)) }
     {
         Self(T::below(hi).bit_and(T::below(lo).bit_not()))
     }
@@ -52,7 +53,7 @@ impl<T: ScalarBitSetStorage> ScalarBitSet<T> {
     /// How many members there are. A port of `ScalarBitSet::len`.
     #[inline]
     pub fn len(&self) -> u8
-        ensures count { result ≡ length (members_of T.width (T.number self.now.0)) }
+        ensures count { result ≡ fin_set.len (set_of T.width (T.number self.now.0)) }
         ensures within { result ≤ T.width }
     {
         self.0.count_ones()
@@ -61,7 +62,7 @@ impl<T: ScalarBitSetStorage> ScalarBitSet<T> {
     /// Whether there is no member. A port of `ScalarBitSet::is_empty`.
     #[inline]
     pub fn is_empty(&self) -> bool
-        ensures { IsTrue result ↔ (members_of T.width (T.number self.now.0) ≡ []) }
+        ensures { IsTrue result ↔ (set_of T.width (T.number self.now.0) ≡ fin_set.empty) }
     {
         self.0.is_equal(T::zero())
     }
@@ -82,8 +83,8 @@ impl<T: ScalarBitSetStorage> ScalarBitSet<T> {
         requires { i < T.width }
         ensures new { result ≡ not (fin_set.contains (set_of T.width (T.number self.old.0)) i) }
         ensures set { set_of T.width (T.number self.new.0) ≡ fin_set.insert (set_of T.width (T.number self.old.0)) i }
-        ensures count { length (members_of T.width (T.number self.new.0))
-            ≡ length (members_of T.width (T.number self.old.0)) + (if result then 1 else 0) }
+        ensures count { fin_set.len (set_of T.width (T.number self.new.0))
+            ≡ fin_set.len (set_of T.width (T.number self.old.0)) + (if result then 1 else 0) }
     {
         if self.contains(i) {
             return false;
@@ -99,8 +100,8 @@ impl<T: ScalarBitSetStorage> ScalarBitSet<T> {
         requires { i < T.width }
         ensures present { result ≡ fin_set.contains (set_of T.width (T.number self.old.0)) i }
         ensures set { set_of T.width (T.number self.new.0) ≡ fin_set.remove (set_of T.width (T.number self.old.0)) i }
-        ensures count { length (members_of T.width (T.number self.new.0)) + (if result then 1 else 0)
-            ≡ length (members_of T.width (T.number self.old.0)) }
+        ensures count { fin_set.len (set_of T.width (T.number self.new.0)) + (if result then 1 else 0)
+            ≡ fin_set.len (set_of T.width (T.number self.old.0)) }
     {
         if !self.contains(i) {
             return false;
@@ -112,7 +113,7 @@ impl<T: ScalarBitSetStorage> ScalarBitSet<T> {
     /// Takes every member out. A port of `ScalarBitSet::clear`.
     #[inline]
     pub fn clear(&mut self)
-        ensures { members_of T.width (T.number self.new.0) ≡ [] }
+        ensures { set_of T.width (T.number self.new.0) ≡ fin_set.empty }
     {
         self.0 = T::zero();
     }
@@ -121,11 +122,10 @@ impl<T: ScalarBitSetStorage> ScalarBitSet<T> {
     /// A port of `ScalarBitSet::pop_min`.
     #[inline]
     pub fn pop_min(&mut self) -> Option<u8>
-        ensures none { IsNone result ↔ (members_of T.width (T.number self.old.0) ≡ []) }
+        ensures none { IsNone result ↔ (set_of T.width (T.number self.old.0) ≡ fin_set.empty) }
         ensures stays { IfNone result (self.new ≡ self.old) }
         ensures within { IfSome result (λ x. x < T.width) }
-        ensures first { IfSome result (λ x. members_of T.width (T.number self.old.0) ≡ x ∷ members_of T.width (T.number self.new.0)) }
-        ensures least { IfSome result (λ x. All (λ k. x ≤ k) (members_of T.width (T.number self.old.0))) }
+        ensures least { IfSome result (IsLeast (set_of T.width (T.number self.old.0))) }
         ensures set { IfSome result (λ x. set_of T.width (T.number self.new.0) ≡ fin_set.remove (set_of T.width (T.number self.old.0)) x) }
     {
         match self.min() {
@@ -141,11 +141,10 @@ impl<T: ScalarBitSetStorage> ScalarBitSet<T> {
     /// A port of `ScalarBitSet::pop_max`.
     #[inline]
     pub fn pop_max(&mut self) -> Option<u8>
-        ensures none { IsNone result ↔ (members_of T.width (T.number self.old.0) ≡ []) }
+        ensures none { IsNone result ↔ (set_of T.width (T.number self.old.0) ≡ fin_set.empty) }
         ensures stays { IfNone result (self.new ≡ self.old) }
         ensures within { IfSome result (λ x. x < T.width) }
-        ensures last { IfSome result (λ x. members_of T.width (T.number self.old.0) ≡ members_of T.width (T.number self.new.0) ++ x ∷ []) }
-        ensures greatest { IfSome result (λ x. All (λ k. k ≤ x) (members_of T.width (T.number self.old.0))) }
+        ensures greatest { IfSome result (IsGreatest (set_of T.width (T.number self.old.0))) }
         ensures set { IfSome result (λ x. set_of T.width (T.number self.new.0) ≡ fin_set.remove (set_of T.width (T.number self.old.0)) x) }
     {
         match self.max() {
@@ -160,10 +159,9 @@ impl<T: ScalarBitSetStorage> ScalarBitSet<T> {
     /// The least member, or `None` where there is none. A port of `ScalarBitSet::min`.
     #[inline]
     pub fn min(&self) -> Option<u8>
-        ensures none { IsNone result ↔ (members_of T.width (T.number self.now.0) ≡ []) }
+        ensures none { IsNone result ↔ (set_of T.width (T.number self.now.0) ≡ fin_set.empty) }
         ensures within { IfSome result (λ x. x < T.width) }
-        ensures member { IfSome result (Contains (members_of T.width (T.number self.now.0))) }
-        ensures least { IfSome result (λ x. All (λ k. x ≤ k) (members_of T.width (T.number self.now.0))) }
+        ensures least { IfSome result (IsLeast (set_of T.width (T.number self.now.0))) }
     {
         if self.is_empty() {
             None
@@ -175,10 +173,9 @@ impl<T: ScalarBitSetStorage> ScalarBitSet<T> {
     /// The greatest member, or `None` where there is none. A port of `ScalarBitSet::max`.
     #[inline]
     pub fn max(&self) -> Option<u8>
-        ensures none { IsNone result ↔ (members_of T.width (T.number self.now.0) ≡ []) }
+        ensures none { IsNone result ↔ (set_of T.width (T.number self.now.0) ≡ fin_set.empty) }
         ensures within { IfSome result (λ x. x < T.width) }
-        ensures member { IfSome result (Contains (members_of T.width (T.number self.now.0))) }
-        ensures greatest { IfSome result (λ x. All (λ k. k ≤ x) (members_of T.width (T.number self.now.0))) }
+        ensures greatest { IfSome result (IsGreatest (set_of T.width (T.number self.now.0))) }
     {
         if self.is_empty() {
             None
@@ -200,7 +197,7 @@ impl<T: ScalarBitSetStorage> ScalarBitSet<T> {
 
 /// The empty set. A port of `impl Default for ScalarBitSet`.
 impl<T: ScalarBitSetStorage> Default for ScalarBitSet<T> {
-    ghost is_default = { λ s. members_of T.width (T.number s.0) ≡ [] };
+    ghost is_default = { λ s. set_of T.width (T.number s.0) ≡ fin_set.empty };
 
     #[inline]
     fn default() -> Self {
@@ -217,7 +214,7 @@ impl<T: ScalarBitSetStorage> PartialEq for ScalarBitSet<T> {
     #[inline]
     fn eq(&self, other: &Self) -> bool
         ensures value { result ≡ pointwise nat_eq (members_of T.width (T.number self.now.0)) (members_of T.width (T.number other.now.0)) }
-        ensures members { IsTrue result ↔ (members_of T.width (T.number self.now.0) ≡ members_of T.width (T.number other.now.0)) }
+        ensures members { IsTrue result ↔ (set_of T.width (T.number self.now.0) ≡ set_of T.width (T.number other.now.0)) }
     {
         self.0.is_equal(other.0)
     }

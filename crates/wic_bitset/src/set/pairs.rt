@@ -3,7 +3,7 @@ ghost use Rattle.std.specs.Prelude.{◌≡◌, ℕ, ◌/◌, ◌<◌, ◌≤◌,
 ghost use Rattle.std.specs.FinSet as fin_set;
 ghost use Rattle.wic_bitset.specs.Combination.{combined, LeavesFrom, TellsChange};
 ghost use Rattle.wic_bitset.specs.Compound.{capacity_of, AllBelow, HasFrom, HasMore};
-ghost use Rattle.wic_bitset.specs.Greatest.{IsGreatest};
+ghost use Rattle.wic_scalar.specs.Extremes.{IsGreatest};
 ghost use Rattle.wic_bitset.specs.Growth.{count_after};
 
 use super::{CompoundBitSet, greatest_within};

@@ -9,7 +9,7 @@ returns-in-Some g c =
     let s = c.args.self.now.members in
     subst (λ n. IsGreatestOfWord w s c.args.k (n + c.in-Some.place)) (sym c.start-start.ensures.start)
     (greatest_of_word w s c.args.k _ g.T.ScalarBitSetStorage.width_within.positive c.word.ensures c.in-Some.place
-    c.in-Some.ensures.within c.in-Some.ensures.member c.in-Some.ensures.greatest)
+    c.in-Some.ensures.within c.in-Some.ensures.greatest)
 
 pub returns-in-None : goal.returns-in-None
 returns-in-None g c =

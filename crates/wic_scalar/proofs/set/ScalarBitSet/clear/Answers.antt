@@ -1,5 +1,5 @@
-use Rattle.wic_scalar.proofs.SetLemmas.{members_of-zero}
+use Rattle.wic_scalar.proofs.SetLemmas.{set_of-zero}
 use Rattle.wic_scalar.proofs.set.ScalarBitSet.clear.Goals as goal
 
 pub returns : goal.returns
-returns g c = members_of-zero _ _ c.zero-self.ensures
+returns g c = set_of-zero _ _ c.zero-self.ensures

@@ -11,12 +11,7 @@ pub returns-else-is_empty-clause-within : goal.returns-else-is_empty-clause-with
 returns-else-is_empty-clause-within g c =
     omega (arith, c.capacity.ensures.width, high_below _ _ _ _ c.leading_zeros.ensures c.is_empty.ensures c.if-is_empty.false)
 
-pub returns-else-is_empty-clause-member : goal.returns-else-is_empty-clause-member
-returns-else-is_empty-clause-member g c =
-    (greatest_member _ _ _ _ c.leading_zeros.ensures
-    (omega (arith, c.capacity.ensures.width, high_below _ _ _ _ c.leading_zeros.ensures c.is_empty.ensures c.if-is_empty.false))).0
-
 pub returns-else-is_empty-clause-greatest : goal.returns-else-is_empty-clause-greatest
 returns-else-is_empty-clause-greatest g c =
-    (greatest_member _ _ _ _ c.leading_zeros.ensures
-    (omega (arith, c.capacity.ensures.width, high_below _ _ _ _ c.leading_zeros.ensures c.is_empty.ensures c.if-is_empty.false))).1
+    greatest_member _ _ _ _ c.leading_zeros.ensures
+    (omega (arith, c.capacity.ensures.width, high_below _ _ _ _ c.leading_zeros.ensures c.is_empty.ensures c.if-is_empty.false))

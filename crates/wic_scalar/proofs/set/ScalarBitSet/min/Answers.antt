@@ -5,10 +5,6 @@ use Rattle.wic_scalar.proofs.set.ScalarBitSet.min.Goals as goal
 pub returns-else-is_empty-clause-within : goal.returns-else-is_empty-clause-within
 returns-else-is_empty-clause-within g c = low_below _ _ _ _ c.trailing_zeros.ensures c.is_empty.ensures c.if-is_empty.false
 
-pub returns-else-is_empty-clause-member : goal.returns-else-is_empty-clause-member
-returns-else-is_empty-clause-member g c =
-    (least_member _ _ _ c.trailing_zeros.ensures (low_below _ _ _ _ c.trailing_zeros.ensures c.is_empty.ensures c.if-is_empty.false)).0
-
 pub returns-else-is_empty-clause-least : goal.returns-else-is_empty-clause-least
 returns-else-is_empty-clause-least g c =
-    (least_member _ _ _ c.trailing_zeros.ensures (low_below _ _ _ _ c.trailing_zeros.ensures c.is_empty.ensures c.if-is_empty.false)).1
+    least_member _ _ _ c.trailing_zeros.ensures (low_below _ _ _ _ c.trailing_zeros.ensures c.is_empty.ensures c.if-is_empty.false)
