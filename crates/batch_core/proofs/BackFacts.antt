@@ -9,7 +9,7 @@ use Rattle.std.specs.FinSet.{contains, insert as with_member, remove as without_
 use Rattle.wic_slab.specs.Order.{next_id, take_next, give_back, BelongsTo}
 use Rattle.wic_slab.proofs.LiveLemmas.{remove-insert as take_put, insert-remove as put_taken, none_from_not_some, live_value}
 use Rattle.wic_slab.proofs.LiveLemmas.{get-insert_same, len-insert_new}
-use Rattle.wic_slab.proofs.LiveLemmas.{len-remove_live, len_of_live}
+use Rattle.wic_slab.proofs.LiveLemmas.{len-remove_live, len_positive_from_live}
 use Rattle.wic_slab.proofs.OrderLemmas.{next_id_not_live, give_back-take_next, next_id-give_back, take_next-give_back}
 use Rattle.batch_core.specs.State.{Contents, IsSound}
 use Rattle.batch_core.specs.Command.{unless, made_of, without_last, last_value, cause_of, effect_of, records_of}
@@ -197,7 +197,7 @@ module _ {X : Type 0} where
       let live = admitted _ _ none in
       let found = live_value c.live id live in
       let less : len (remove c.live id) < w.table =
-      omega (arith, len-remove_live c.live id live, len_of_live c.live id live, room.table) in
+      omega (arith, len-remove_live c.live id live, len_positive_from_live c.live id live, room.table) in
       subst (λ o. CanGoBack w (made_of o (Freed id)) (record c { live = remove c.live id; order = give_back c.order id })) (sym found.1)
       (tt, less)
   can_step w c (Put id value) room sound none =

@@ -9,20 +9,21 @@ use Rattle.std.specs.FinMap.{get-from_sorted, get-entries}
 use Rattle.std.specs.FinMap.Entries.{below_all}
 use Rattle.wic_slab.specs.Drain.{drain_pairs, DrainSteps, DrainKeeps, DrainKeepsAlong}
 use Rattle.wic_slab.specs.declared.drain.Drain.{Drain}
-use Rattle.wic_slab.proofs.LiveLemmas.{tied_same, tied_other, same_live, get-remove_same, get-remove_other}
-use Rattle.wic_slab.proofs.EntryLemmas.{both, less}
+use Rattle.wic_slab.proofs.LiveLemmas.{eq_by_cmp_same, eq_by_cmp_other, same_map_from_get, get-remove_same, get-remove_other}
+use Rattle.wic_slab.proofs.EntryLemmas.{T-and_from_both, is_lt-nat_cmp_from_below}
 
 module _ {X : Type 0} where
   -- where nothing is found up to a number, each entry is above it
   all_above : (bound : ℕ) (es : List (ℕ × X)) → ((q : ℕ) → q ≤ bound → find nat_cmp q es ≡ None) → T (below_all nat_cmp bound es)
   all_above bound [] none = tt
   all_above bound (e ∷ es) none =
-      both _ _ (less bound e.0 (elim (cases_lt bound e.0) [ inl below ↦ below | inr above ↦ absurd (here above) ]))
+      T-and_from_both _ _
+      (is_lt-nat_cmp_from_below bound e.0 (elim (cases_lt bound e.0) [ inl below ↦ below | inr above ↦ absurd (here above) ]))
       (all_above bound es rest)
     where
       here : e.0 ≤ bound → ⊥
       here above =
-          let found : find nat_cmp e.0 (e ∷ es) ≡ Some e.1 = rw (tied_same e.0) in
+          let found : find nat_cmp e.0 (e ∷ es) ≡ Some e.1 = rw (eq_by_cmp_same e.0) in
           let missed = none e.0 above in
           cc
 
@@ -30,7 +31,7 @@ module _ {X : Type 0} where
       rest q within =
           elim (cases_eq q e.0) [
             | inl same ↦ absurd (here (omega arith))
-            | inr differs ↦ rw (tied_other q e.0 differs) at (none q within)
+            | inr differs ↦ rw (eq_by_cmp_other q e.0 differs) at (none q within)
           ]
 
   -- the pair of the least id stands first
@@ -44,15 +45,15 @@ module _ {X : Type 0} where
         | inr differs ↦ get-remove_other m id q differs ∙ none q (omega arith)
       ] in
       let sorted : T (is_sorted nat_cmp ((id, value) ∷ entries rest)) =
-      both _ _ (all_above id (entries rest) missed) (entries_sorted rest) in
+      T-and_from_both _ _ (all_above id (entries rest) missed) (entries_sorted rest) in
       let same : m ≡ from_sorted ((id, value) ∷ entries rest) =
-      same_live _ _ (λ q. sym (get-from_sorted nat_cmp ((id, value) ∷ entries rest) q sorted ∙ at q)) in
+      same_map_from_get _ _ (λ q. sym (get-from_sorted nat_cmp ((id, value) ∷ entries rest) q sorted ∙ at q)) in
       ap entries same ∙ entries-from_sorted nat_cmp _ sorted
     where
       at : (q : ℕ) → find nat_cmp q ((id, value) ∷ entries (remove m id)) ≡ get m q
       at q = elim (cases_eq q id) [
-        | inl same ↦ rw (same, tied_same id) (sym found)
-        | inr differs ↦ rw (tied_other q id differs) (sym (get-entries (remove m id) q) ∙ get-remove_other m id q differs)
+        | inl same ↦ rw (same, eq_by_cmp_same id) (sym found)
+        | inr differs ↦ rw (eq_by_cmp_other q id differs) (sym (get-entries (remove m id) q) ∙ get-remove_other m id q differs)
       ]
 
   -- where nothing is found, there is no pair
@@ -62,7 +63,7 @@ module _ {X : Type 0} where
       no_entries : (es : List (ℕ × X)) → ((q : ℕ) → find nat_cmp q es ≡ None) → es ≡ []
       no_entries [] none = refl
       no_entries (e ∷ es) none =
-          let found : find nat_cmp e.0 (e ∷ es) ≡ Some e.1 = rw (tied_same e.0) in
+          let found : find nat_cmp e.0 (e ∷ es) ≡ Some e.1 = rw (eq_by_cmp_same e.0) in
           let missed = none e.0 in
           absurd (cc)
 

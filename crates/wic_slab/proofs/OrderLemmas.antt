@@ -9,19 +9,23 @@ use Rattle.wic_slab.specs.Order.{Order, max_capacity, from_zero, next_id, take_f
 use Rattle.wic_slab.specs.Order.{IsOrder, BelongsTo}
 use Rattle.wic_slab.proofs.LiveLemmas.{get-insert_same, get-insert_other, get-remove_same, get-remove_other}
 
+-- nat_eq holds of a number and itself
 pub nat_eq_same : (k : ℕ) → nat_eq k k ≡ true
 nat_eq_same k = grind (arith, nat_tests)
 
+-- nat_eq fails for two different numbers
 pub nat_eq_other : (q k : ℕ) → q ≢ k → nat_eq q k ≡ false
 nat_eq_other q k differs = grind (arith, nat_tests)
 
-pub neither : (a b : Bool) → (a || b) ≡ false → a ≡ false
-neither true b e = absurd (cc)
-neither false b e = refl
+-- a is false where a || b is false
+pub left_false_from_or : (a b : Bool) → (a || b) ≡ false → a ≡ false
+left_false_from_or true b e = absurd (cc)
+left_false_from_or false b e = refl
 
-pub nor : (a b : Bool) → (a || b) ≡ false → b ≡ false
-nor true b e = absurd (cc)
-nor false b e = e
+-- b is false where a || b is false
+pub right_false_from_or : (a b : Bool) → (a || b) ≡ false → b ≡ false
+right_false_from_or true b e = absurd (cc)
+right_false_from_or false b e = e
 
 first_of : (a b : Bool) → (a && not b) ≡ true → a ≡ true
 first_of true b e = refl
@@ -55,7 +59,8 @@ not_any_from_all id (other ∷ ids) all = rw all.0 (not_any_from_all id ids all.
 
 all_from_not_any : (id : ℕ) (ids : List ℕ) → list_any (nat_eq id) ids ≡ false → AllByRecursion (λ other. nat_eq id other ≡ false) ids
 all_from_not_any id [] none = tt
-all_from_not_any id (other ∷ ids) none = (neither (nat_eq id other) _ none, all_from_not_any id ids (nor (nat_eq id other) _ none))
+all_from_not_any id (other ∷ ids) none =
+    (left_false_from_or (nat_eq id other) _ none, all_from_not_any id ids (right_false_from_or (nat_eq id other) _ none))
 
 -- a number that each of a list is below is none of them
 not_any_above : (bound id : ℕ) (ids : List ℕ) → bound ≤ id → AllByRecursion (λ other. other < bound) ids
@@ -76,6 +81,7 @@ give_to-take_from [] fresh apart = rw (nat_eq_same (fresh + 1))
 give_to-take_from (id ∷ []) fresh apart = rw (nat_eq_other (id + 1) fresh apart)
 give_to-take_from (id ∷ next ∷ vacant) fresh apart = refl
 
+-- the next id of a valid order, taken and given back, leaves the order as it was
 pub give_back-take_next : (o : Order) → IsOrder o → give_back (take_next o) (next_id o) ≡ o
 give_back-take_next o valid = give_to-take_from o.vacant o.fresh valid.last_apart
 
@@ -85,6 +91,7 @@ next_id-give_to [] fresh id = elim (nat_eq (id + 1) fresh) as
     [ true ↦ refl | false ↦ refl ]
 next_id-give_to (next ∷ vacant) fresh id = refl
 
+-- an id that was given back is the next one
 pub next_id-give_back : (o : Order) (id : ℕ) → next_id (give_back o id) ≡ id
 next_id-give_back o id = next_id-give_to o.vacant o.fresh id
 
@@ -96,6 +103,7 @@ take_next-give_to [] fresh id =
     ]
 take_next-give_to (next ∷ vacant) fresh id = refl
 
+-- an id that is given back and taken as the next one leaves the order as it was
 pub take_next-give_back : (o : Order) (id : ℕ) → take_next (give_back o id) ≡ o
 take_next-give_back o id = take_next-give_to o.vacant o.fresh id
 
@@ -151,6 +159,7 @@ is_order_taken (id ∷ ids) fresh valid room =
       at_most = valid.at_most;
     }
 
+-- a valid order stays valid when its next id is taken, where that id is below the greatest number of live ids
 pub IsOrder-take_next : (o : Order) → IsOrder o → next_id o < max_capacity → IsOrder (take_next o)
 IsOrder-take_next o valid room = is_order_taken o.vacant o.fresh valid room
 
@@ -177,6 +186,7 @@ is_order_given (next ∷ ids) fresh id valid below apart =
       at_most = valid.at_most;
     }
 
+-- a valid order stays valid when an id is given back that is below the first fresh one and not vacant
 pub IsOrder-give_back : (o : Order) (id : ℕ) → IsOrder o → id < o.fresh → is_vacant o id ≡ false → IsOrder (give_back o id)
 IsOrder-give_back o id valid below apart = is_order_given o.vacant o.fresh id valid below apart
 
@@ -212,6 +222,7 @@ others_given [] fresh id q differs =
 others_given (next ∷ ids) fresh id q differs = rw (nat_eq_other q id differs)
 
 module _ {T : Type 0} where
+  -- where the next id of a valid order is taken and a value is written under it, the order still belongs to the live ids
   pub BelongsTo-take_next : (o : Order) (live : FinMap nat_cmp T) (value : T) → IsOrder o → BelongsTo o live
       → BelongsTo (take_next o) (insert live (next_id o) value)
   BelongsTo-take_next o live value valid belongs q =
@@ -221,6 +232,7 @@ module _ {T : Type 0} where
             ∙ sym (others_taken o.vacant o.fresh q differs)
       ]
 
+  -- where an id is given back and taken out of the map, the order still belongs to the live ids
   pub BelongsTo-give_back : (o : Order) (live : FinMap nat_cmp T) (id : ℕ) → BelongsTo o live
       → BelongsTo (give_back o id) (remove live id)
   BelongsTo-give_back o live id belongs q =
@@ -229,68 +241,74 @@ module _ {T : Type 0} where
         | inr differs ↦ ap is_some (get-remove_other live id q differs) ∙ belongs q ∙ sym (others_given o.vacant o.fresh id q differs)
       ]
 
--- an id that was taken is neither vacant nor fresh
+-- the next id of a valid order is not vacant once it is taken
 pub taken_not_vacant : (o : Order) → IsOrder o → is_vacant (take_next o) (next_id o) ≡ false
 taken_not_vacant o valid = second_of _ _ (taken_is_live o.vacant o.fresh valid)
 
+-- the next id of a valid order is below the first fresh one once it is taken
 pub taken_below_fresh : (o : Order) → IsOrder o → next_id o < (take_next o).fresh
 taken_below_fresh o valid = below_from_test _ _ (first_of _ _ (taken_is_live o.vacant o.fresh valid))
 
-fresh_taken_by : (vacant : List ℕ) (fresh : ℕ) → AllByRecursion (λ id. id < fresh) vacant
+fresh-take_from : (vacant : List ℕ) (fresh : ℕ) → AllByRecursion (λ id. id < fresh) vacant
     → (take_from vacant fresh).fresh ≡ max fresh (next_id (record { vacant = vacant; fresh = fresh }) + 1)
-fresh_taken_by [] fresh below = omega arith
-fresh_taken_by (id ∷ ids) fresh below = omega (arith, below.0)
+fresh-take_from [] fresh below = omega arith
+fresh-take_from (id ∷ ids) fresh below = omega (arith, below.0)
 
-pub fresh_taken : (o : Order) → IsOrder o → (take_next o).fresh ≡ max o.fresh (next_id o + 1)
-fresh_taken o valid = fresh_taken_by o.vacant o.fresh valid.below
+-- once the next id of a valid order is taken, the first fresh id is the greater of the one before and the number after the taken id
+pub fresh-take_next : (o : Order) → IsOrder o → (take_next o).fresh ≡ max o.fresh (next_id o + 1)
+fresh-take_next o valid = fresh-take_from o.vacant o.fresh valid.below
 
-total_taken_by : (vacant : List ℕ) (fresh count : ℕ) → count + length vacant ≡ fresh
+total-take_from : (vacant : List ℕ) (fresh count : ℕ) → count + length vacant ≡ fresh
     → count + 1 + length (take_from vacant fresh).vacant ≡ (take_from vacant fresh).fresh
-total_taken_by [] fresh count total = omega arith
-total_taken_by (id ∷ ids) fresh count total = omega arith
+total-take_from [] fresh count total = omega arith
+total-take_from (id ∷ ids) fresh count total = omega arith
 
-pub total_taken : (o : Order) (count : ℕ) → count + length o.vacant ≡ o.fresh
+-- where count and the number of vacant ids add up to the first fresh id, so does count + 1 once the next id is taken
+pub total-take_next : (o : Order) (count : ℕ) → count + length o.vacant ≡ o.fresh
     → count + 1 + length (take_next o).vacant ≡ (take_next o).fresh
-total_taken o count total = total_taken_by o.vacant o.fresh count total
+total-take_next o count total = total-take_from o.vacant o.fresh count total
 
-total_given_by : (vacant : List ℕ) (fresh count id : ℕ) → 0 < count → count + length vacant ≡ fresh
+total-give_to : (vacant : List ℕ) (fresh count id : ℕ) → 0 < count → count + length vacant ≡ fresh
     → count - 1 + length (give_to vacant fresh id).vacant ≡ (give_to vacant fresh id).fresh
-total_given_by [] fresh count id some total =
+total-give_to [] fresh count id some total =
     elim (cases_eq (id + 1) fresh) [
       | inl same ↦ rw (same, nat_eq_same fresh) (omega arith)
       | inr differs ↦ rw (nat_eq_other (id + 1) fresh differs) (omega arith)
     ]
-total_given_by (next ∷ ids) fresh count id some total = omega arith
+total-give_to (next ∷ ids) fresh count id some total = omega arith
 
-pub total_given : (o : Order) (count id : ℕ) → 0 < count → count + length o.vacant ≡ o.fresh
+-- where count and the number of vacant ids add up to the first fresh id, so does count - 1 once an id is given back
+pub total-give_back : (o : Order) (count id : ℕ) → 0 < count → count + length o.vacant ≡ o.fresh
     → count - 1 + length (give_back o id).vacant ≡ (give_back o id).fresh
-total_given o count id some total = total_given_by o.vacant o.fresh count id some total
+total-give_back o count id some total = total-give_to o.vacant o.fresh count id some total
 
-fresh_given_by : (vacant : List ℕ) (fresh count id : ℕ) → count + length vacant ≡ fresh
+fresh-give_to : (vacant : List ℕ) (fresh count id : ℕ) → count + length vacant ≡ fresh
     → (give_to vacant fresh id).fresh ≡ cond (nat_eq count fresh && nat_eq (id + 1) fresh) id fresh
-fresh_given_by [] fresh count id total =
+fresh-give_to [] fresh count id total =
     let full : count ≡ fresh = omega arith in
     elim (cases_eq (id + 1) fresh) [
       | inl same ↦ rw (full, same, nat_eq_same fresh)
       | inr differs ↦ rw (full, nat_eq_same fresh, nat_eq_other (id + 1) fresh differs)
     ]
-fresh_given_by (next ∷ ids) fresh count id total = rw (nat_eq_other count fresh (λ same. omega arith))
+fresh-give_to (next ∷ ids) fresh count id total = rw (nat_eq_other count fresh (λ same. omega arith))
 
 -- the first fresh id falls only where no id below it is vacant, and then the live ones are as many as it
-pub fresh_given : (o : Order) (count id : ℕ) → count + length o.vacant ≡ o.fresh
+pub fresh-give_back : (o : Order) (count id : ℕ) → count + length o.vacant ≡ o.fresh
     → (give_back o id).fresh ≡ cond (nat_eq count o.fresh && nat_eq (id + 1) o.fresh) id o.fresh
-fresh_given o count id total = fresh_given_by o.vacant o.fresh count id total
+fresh-give_back o count id total = fresh-give_to o.vacant o.fresh count id total
 
-fresh_given_le_by : (vacant : List ℕ) (fresh id : ℕ) → id < fresh → (give_to vacant fresh id).fresh ≤ fresh
-fresh_given_le_by [] fresh id below =
+fresh-give_to_le : (vacant : List ℕ) (fresh id : ℕ) → id < fresh → (give_to vacant fresh id).fresh ≤ fresh
+fresh-give_to_le [] fresh id below =
     elim (cases_eq (id + 1) fresh) [
       | inl same ↦ rw (same, nat_eq_same fresh) (omega arith)
       | inr differs ↦ rw (nat_eq_other (id + 1) fresh differs) (omega arith)
     ]
-fresh_given_le_by (next ∷ ids) fresh id below = omega arith
+fresh-give_to_le (next ∷ ids) fresh id below = omega arith
 
-pub fresh_given_le : (o : Order) (id : ℕ) → id < o.fresh → (give_back o id).fresh ≤ o.fresh
-fresh_given_le o id below = fresh_given_le_by o.vacant o.fresh id below
+-- the first fresh id does not rise when an id below it is given back
+pub fresh-give_back_le : (o : Order) (id : ℕ) → id < o.fresh → (give_back o id).fresh ≤ o.fresh
+fresh-give_back_le o id below = fresh-give_to_le o.vacant o.fresh id below
 
-pub from_zero-IsOrder : IsOrder from_zero
-from_zero-IsOrder = record { distinct = distinct_none; below = tt; last_apart = λ same. omega arith; at_most = omega arith }
+-- the order that starts at 0 is valid
+pub IsOrder-from_zero : IsOrder from_zero
+IsOrder-from_zero = record { distinct = distinct_none; below = tt; last_apart = λ same. omega arith; at_most = omega arith }

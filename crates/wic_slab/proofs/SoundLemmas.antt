@@ -13,12 +13,13 @@ use Rattle.wic_slab.specs.declared.slab.Entry.TheVariants.{Vacant, Occupied}
 use Rattle.wic_slab.specs.Order.{Order, max_capacity, from_zero, next_id, take_from, take_next, give_to, give_back, is_vacant, BelongsTo}
 use Rattle.wic_slab.specs.Slab.{Slab, IsSlab, with_value}
 use Rattle.wic_slab.specs.Entry.{vacant_places, link_of, live_of, chain, order_of, Links, IsSound}
-use Rattle.wic_slab.proofs.LiveLemmas.{len-insert_new, len-insert_again, len-remove_live, len_of_live, contains_key-insert_again}
-use Rattle.wic_slab.proofs.LiveLemmas.{same_live}
-use Rattle.wic_slab.proofs.OrderLemmas.{nat_eq_same, nat_eq_other, neither, nor, next_id_not_live, live_below, live_not_vacant}
+use Rattle.wic_slab.proofs.LiveLemmas.{len-insert_new, len-insert_again, len-remove_live, len_positive_from_live}
+use Rattle.wic_slab.proofs.LiveLemmas.{contains_key-insert_again, same_map_from_get}
+use Rattle.wic_slab.proofs.OrderLemmas.{nat_eq_same, nat_eq_other, left_false_from_or, right_false_from_or}
+use Rattle.wic_slab.proofs.OrderLemmas.{next_id_not_live, live_below, live_not_vacant}
 use Rattle.wic_slab.proofs.OrderLemmas.{IsOrder-take_next, IsOrder-give_back, BelongsTo-take_next, BelongsTo-give_back, taken_not_vacant}
-use Rattle.wic_slab.proofs.OrderLemmas.{taken_below_fresh, fresh_taken, total_taken, total_given, fresh_given, fresh_given_le}
-use Rattle.wic_slab.proofs.OrderLemmas.{from_zero-IsOrder}
+use Rattle.wic_slab.proofs.OrderLemmas.{taken_below_fresh, fresh-take_next, total-take_next, total-give_back, fresh-give_back}
+use Rattle.wic_slab.proofs.OrderLemmas.{fresh-give_back_le, IsOrder-from_zero}
 use Rattle.wic_slab.proofs.EntryLemmas.{get-live_of, live_of-occupied, live_of-vacant, live_of-push, occupied_at}
 
 not_any_numbers : (k first count : ℕ) → k < first → list_any (nat_eq k) (range_with_len first count) ≡ false
@@ -30,7 +31,7 @@ not_any-append : (k : ℕ) (xs ys : List ℕ) → list_any (nat_eq k) xs ≡ fal
     → list_any (nat_eq k) (xs ++ ys) ≡ false
 not_any-append k [] ys none rest = rest
 not_any-append k (x ∷ xs) ys none rest =
-    rw (neither (nat_eq k x) _ none) (not_any-append k xs ys (nor (nat_eq k x) _ none) rest)
+    rw (left_false_from_or (nat_eq k x) _ none) (not_any-append k xs ys (right_false_from_or (nat_eq k x) _ none) rest)
 
 -- an id below the fresh ones that isn't vacant is none of the vacant places
 not_any_place : (o : Order) (count k : ℕ) → is_vacant o k ≡ false → k < o.fresh → list_any (nat_eq k) (vacant_places o count) ≡ false
@@ -83,10 +84,10 @@ module _ {X : Type 0} where
       let kept : slice_get (set es k e) place ≡ Some (Vacant links.1) =
       slice_get-get_or (set es k e) place e (omega (arith, length-set es k e))
       ∙ ap Some (get_or-set_other es k place e e other ∙ get_or_from_slice_get es place _ e links.2) in
-      (links.0, links.1, kept, Links-set es k e links.1 places (nor (nat_eq k place) _ none) links.3)
+      (links.0, links.1, kept, Links-set es k e links.1 places (right_false_from_or (nat_eq k place) _ none) links.3)
     where
       apart : place ≡ k → ⊥
-      apart same = true≢false (sym (rw same (nat_eq_same k)) ∙ neither (nat_eq k place) _ none)
+      apart same = true≢false (sym (rw same (nat_eq_same k)) ∙ left_false_from_or (nat_eq k place) _ none)
 
   -- the chain that is read from the entries is what they link
   chain-linked : (es : List (Entry X)) (from : ℕ) (places rest : List ℕ) → Links es from (places ++ rest)
@@ -183,13 +184,13 @@ module _ {X : Type 0} where
       Links-set es next (Occupied value) after _ off (subst (λ n. Links es n (vacant_places (take_next o) (length es))) same links.3) in
       let long = length-set es next (Occupied value) in
       let room : next_id o < max_capacity = omega (arith, sound.at_most) in
-      let risen = fresh_taken o sound.ordered in
+      let risen = fresh-take_next o sound.ordered in
       record {
         ordered = IsOrder-take_next o sound.ordered room;
         belongs = rw live (BelongsTo-take_next o (live_of es) value sound.ordered sound.belongs);
         linked = rw long rest;
         counted = rw live (ap (λ n. n + 1) sound.counted ∙ sym (len-insert_new (live_of es) (next_id o) value none));
-        total = total_taken o count sound.total;
+        total = total-take_next o count sound.total;
         within = omega (arith, sound.within);
         at_most = omega (arith, sound.at_most);
       }
@@ -216,7 +217,7 @@ module _ {X : Type 0} where
         belongs = rw live (BelongsTo-take_next o (live_of es) value sound.ordered sound.belongs);
         linked = rw taken linked;
         counted = rw live (ap (λ n. n + 1) sound.counted ∙ sym (len-insert_new (live_of es) (next_id o) value none));
-        total = total_taken o count sound.total;
+        total = total-take_next o count sound.total;
         within = omega (arith, full.1);
         at_most = omega arith;
       }
@@ -236,14 +237,14 @@ module _ {X : Type 0} where
       slice_get-get_or _ id (Vacant next) (omega arith) ∙ ap Some (get_or-set_same es id (Vacant next) (Vacant next) within) in
       let linked : Links (set es id (Vacant next)) id (id ∷ vacant_places o (length es)) =
       (refl, next, written, Links-set es id (Vacant next) next _ off sound.linked) in
-      let some : 0 < count = omega (arith, sound.counted, len_of_live (live_of es) id is_live) in
+      let some : 0 < count = omega (arith, sound.counted, len_positive_from_live (live_of es) id is_live) in
       record {
         ordered = IsOrder-give_back o id sound.ordered below apart;
         belongs = rw live (BelongsTo-give_back o (live_of es) id sound.belongs);
         linked = rw (long, places_given o.vacant o.fresh (length es) id within) linked;
         counted = rw live (ap (λ n. n - 1) sound.counted ∙ sym (len-remove_live (live_of es) id is_live));
-        total = total_given o count id some sound.total;
-        within = omega (arith, sound.within, fresh_given_le o id below);
+        total = total-give_back o count id some sound.total;
+        within = omega (arith, sound.within, fresh-give_back_le o id below);
         at_most = omega (arith, sound.at_most);
       }
 
@@ -280,12 +281,12 @@ module _ {X : Type 0} where
       }
 
   pub live_of-empty : (es : List (Entry X)) → es ≡ [] → live_of es ≡ empty
-  live_of-empty es none = ap live_of none ∙ same_live _ _ (λ q. get-live_of [] q ∙ sym (get-empty nat_cmp q))
+  live_of-empty es none = ap live_of none ∙ same_map_from_get _ _ (λ q. get-live_of [] q ∙ sym (get-empty nat_cmp q))
 
   pub IsSound-empty : (es : List (Entry X)) → es ≡ [] → IsSound es 0 0 from_zero
   IsSound-empty es none = rw none
       (record {
-        ordered = from_zero-IsOrder;
+        ordered = IsOrder-from_zero;
         belongs = from_zero-BelongsTo X;
         linked = refl;
         counted =
@@ -299,7 +300,7 @@ module _ {X : Type 0} where
       → max fresh (next + 1) ≡ (take_next (order_of es next count fresh)).fresh
   risen_fresh es count next fresh sound =
       let o = order_of es next count fresh in
-      ap (λ id. max fresh (id + 1)) (next_is es count next o sound) ∙ sym (fresh_taken o sound.ordered)
+      ap (λ id. max fresh (id + 1)) (next_is es count next o sound) ∙ sym (fresh-take_next o sound.ordered)
 
   -- the fields as they are once the next entry is put at the end
   pub pushed : (es : List (Entry X)) (count next fresh : ℕ) (value : X) → IsSound es count next (order_of es next count fresh)
@@ -348,7 +349,7 @@ module _ {X : Type 0} where
       (order_of (set es id (Vacant next)) id (count - 1) (cond (nat_eq count fresh && nat_eq (id + 1) fresh) id fresh))
   vacated es count next fresh id value sound found =
       let o = order_of es next count fresh in
-      sound_again _ _ _ _ _ (IsSound-vacate es count next id o value sound found) (sym (fresh_given o count id sound.total))
+      sound_again _ _ _ _ _ (IsSound-vacate es count next id o value sound found) (sym (fresh-give_back o count id sound.total))
 
   pub vacated_order : (es : List (Entry X)) (count next fresh id : ℕ) (value : X) → IsSound es count next (order_of es next count fresh)
       → get (live_of es) id ≡ Some value
@@ -356,7 +357,7 @@ module _ {X : Type 0} where
       (order_of es next count fresh) id
   vacated_order es count next fresh id value sound found =
       let o = order_of es next count fresh in
-      same_order _ _ _ _ _ (IsSound-vacate es count next id o value sound found) (sym (fresh_given o count id sound.total))
+      same_order _ _ _ _ _ (IsSound-vacate es count next id o value sound found) (sym (fresh-give_back o count id sound.total))
 
   -- the fields as they are once the value of a live id is written anew
   pub rewritten : (es : List (Entry X)) (count next fresh id : ℕ) (old new : X) → IsSound es count next (order_of es next count fresh)

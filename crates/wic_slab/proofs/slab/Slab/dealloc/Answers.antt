@@ -1,7 +1,7 @@
 use Rattle.std.proofs.Common.{Some, refl, sym, ap, ◌∙◌, arith, length-set}
 use Rattle.std.proofs.lemmas.Option.{slice_get_within}
 use Rattle.wic_slab.specs.declared.slab.Entry.TheVariants.{Vacant}
-use Rattle.wic_slab.proofs.LiveLemmas.{live_value, len_of_live}
+use Rattle.wic_slab.proofs.LiveLemmas.{live_value, len_positive_from_live}
 use Rattle.wic_slab.proofs.EntryLemmas.{occupied_at, get-occupied, live_of-vacant}
 use Rattle.wic_slab.proofs.SoundLemmas.{vacated, vacated_order, IsSlab-sound}
 use Rattle.wic_slab.proofs.StepLemmas.{GivesBack-made}
@@ -10,7 +10,7 @@ use Rattle.wic_slab.proofs.slab.Slab.dealloc.Goals as goal
 pub overflow_sub-self : goal.overflow_sub-self
 overflow_sub-self g c =
     let live = rw (← c.self.view_is) at c.requires in
-    omega (arith, c.self.invariant.0.counted, len_of_live _ _ live)
+    omega (arith, c.self.invariant.0.counted, len_positive_from_live _ _ live)
 
 pub invariant_of-self : goal.invariant_of-self
 invariant_of-self g c =
