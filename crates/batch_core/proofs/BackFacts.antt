@@ -25,6 +25,7 @@ use Rattle.wic_slab.proofs.LiveLemmas.{insert_back}
 use Rattle.wic_bitset.proofs.SetFacts.{remove-insert, insert_present, insert-remove, remove_absent}
 use Rattle.batch_core.proofs.ListFacts.{without_last-push, last_value-push, pushed, set_back, found_below}
 
+-- where the test gives no cause, it holds
 pub admitted : (test : Bool) (cause : Cause) → unless test cause ≡ None → test ≡ true
 admitted true cause none = refl
 admitted false cause none = absurd (cc)
@@ -34,6 +35,7 @@ not_not true = refl
 not_not false = refl
 
 module _ {X : Type 0} where
+  -- undoing xs ++ ys is undoing ys, and then xs
   pub undo_all-append : (xs ys : List (Record X)) (c : Contents X) → undo_all (xs ++ ys) c ≡ undo_all xs (undo_all ys c)
   undo_all-append [] ys c = refl
   undo_all-append (x ∷ xs) ys c = ap (undo_record x) (undo_all-append xs ys c)
@@ -93,6 +95,7 @@ module _ {X : Type 0} where
   undo_remove c number true present = ap (λ s. record c { set = s }) (insert-remove c.set number present)
   undo_remove c number false absent = ap (λ s. record c { set = s }) (remove_absent c.set number absent)
 
+  -- on sound contents, undoing the records of an admitted command gives the contents before it
   pub undoing_goes_back : UndoingGoesBack X
   undoing_goes_back c (Push value) sound none = ap (λ l. record c { list = l }) (without_last-push c.list value)
   undoing_goes_back c Pop sound none =
@@ -121,6 +124,7 @@ module _ {X : Type 0} where
       ∙ undo_cuts (drop kept c.list) (record c { list = take kept c.list })
       ∙ ap (λ l. record c { list = l }) (take-append-drop kept c.list)
 
+  -- xs ++ ys can be undone where ys can be, and xs can be once ys are undone
   pub can_append : (within : Capacities) (xs ys : List (Record X)) (c : Contents X) → CanGoBack within ys c
       → CanGoBack within xs (undo_all ys c) → CanGoBack within (xs ++ ys) c
   can_append within [] ys c later earlier = later
@@ -153,6 +157,7 @@ module _ {X : Type 0} where
   can_grow w v grows [] c can = tt
   can_grow w v grows (r ∷ rs) c can = (can_grow w v grows rs c can.0, can_undo_grow w v grows r (undo_all rs c) can.1)
 
+  -- values that were cut off a list can be put back where the capacity of the list has room for them
   pub can_cuts : (within : Capacities) (ys : List X) (c : Contents X) → length c.list + length ys ≤ within.list
       → CanGoBack within (map Cut (reverse ys)) c
   can_cuts within [] c room = tt

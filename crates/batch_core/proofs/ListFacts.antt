@@ -12,9 +12,11 @@ module _ {T : Type 0} where
   slice_get-push [] y = refl
   slice_get-push (x ∷ ys) y = slice_get-push ys y
 
+  -- ys with y put behind it is ys without its last value
   pub without_last-push : (ys : List T) (y : T) → without_last (ys ++ y ∷ []) ≡ ys
   without_last-push ys y = ap (λ n. take n (ys ++ y ∷ [])) (length-push ys y) ∙ take-append_seam ys (y ∷ [])
 
+  -- the last value of ys with y put behind it is y
   pub last_value-push : (ys : List T) (y : T) → last_value (ys ++ y ∷ []) ≡ Some y
   last_value-push ys y = ap (slice_get (ys ++ y ∷ [])) (length-push ys y) ∙ slice_get-push ys y
 
@@ -23,6 +25,7 @@ module _ {T : Type 0} where
   pushed x [] = ([], x, refl)
   pushed x (z ∷ xs) = let rest = pushed z xs in (x ∷ rest.0, rest.1, ap (λ l. x ∷ l) rest.2)
 
+  -- a value that is written over another, and gives way to it again, leaves the list as it was
   pub set_back : (xs : List T) (i : ℕ) (value old : T) → slice_get xs i ≡ Some old → slice_set (slice_set xs i value) i old ≡ xs
   set_back [] i value old found = absurd (cc)
   set_back (x ∷ xs) zero value old found = cc
@@ -34,9 +37,10 @@ module _ {T : Type 0} where
   found_below (x ∷ xs) zero below = (x, refl)
   found_below (x ∷ xs) (suc i) below = found_below xs i (omega arith)
 
-  -- what is left of a list, and what is taken out, where its last value is
+  -- where xs is ys with y put behind it, xs without its last value is ys
   pub without_last_of : (xs ys : List T) (y : T) → xs ≡ ys ++ y ∷ [] → without_last xs ≡ ys
   without_last_of xs ys y made = ap without_last made ∙ without_last-push ys y
 
+  -- where xs is ys with y put behind it, the last value of xs is y
   pub last_value_of : (xs ys : List T) (y : T) → xs ≡ ys ++ y ∷ [] → last_value xs ≡ Some y
   last_value_of xs ys y made = ap last_value made ∙ last_value-push ys y

@@ -33,6 +33,7 @@ module _ {X : Type 0} where
         within_larger room larger (count + cut_by c command) (effect_of c command) commands more here.1,
       )) within
 
+  -- a batch that fits a room fits each larger room
   pub fits_larger : FitsLargerRooms X
   fits_larger room larger c commands more fits = record {
     few = omega (arith, fits.few, more);

@@ -57,6 +57,7 @@ refused_here o cause n at later is next =
     ap (λ x. option_map (later_by n) (front_or_later x later)) is
     ∙ ap (λ k. Some (record { cause = cause; at = k })) (sym next)
 
+-- where P gives Q, and P holds if there is no cause, Q holds if there is no cause
 pub if_none_more : (o : Option Cause) (P Q : Type 0) → (P → Q) → IfNone o P → IfNone o Q
 if_none_more None P Q more here = more here
 if_none_more (Some cause) P Q more here = tt
@@ -168,6 +169,7 @@ module _ {X : Type 0} where
     pub room : now.room ≡ first.room
     pub grows : Grows first.capacities now.capacities
 
+  -- a batch has come no command far, where there are no records yet and the capacity is for total of them or more
   pub along_start : (total : ℕ) (first : Workspace X) → first.records ≡ [] → total ≤ first.capacities.records
       → IsAlong total first first []
   along_start total first none room = record {

@@ -17,6 +17,7 @@ use Rattle.batch_script.specs.declared.program.Status.TheVariants.{Done, Syntax,
 use Rattle.batch_script.proofs.ScriptFacts.{one_script}
 use Rattle.batch_script.proofs.WordFacts.{one_run}
 
+-- bytes and input are the same where Some bytes and Some input are
 pub some_told : (bytes input : List ℕ) → Some bytes ≡ Some input → bytes ≡ input
 some_told bytes input same = cc
 

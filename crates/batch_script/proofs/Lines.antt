@@ -25,6 +25,7 @@ lines-nonempty x (y ∷ ys) none =
     let later = lines-nonempty y ys (λ k below. none (suc k) (omega arith)) in
     lines-other x (y ∷ ys) (none 0 (omega arith)) ∙ ap (with_byte x) later
 
+-- bytes among which there is no line feed, and of which there is one at least, are one line
 pub lines-without_line_feed : (xs : List ℕ) → 0 < length xs → ((k : ℕ) → k < length xs → get_or xs k 0 ≢ 10) → lines_of xs ≡ xs ∷ []
 lines-without_line_feed [] some none = absurd (omega arith)
 lines-without_line_feed (x ∷ xs) some none = lines-nonempty x xs none

@@ -104,6 +104,7 @@ first_room : (within : Bool) (room : ℕ) → within ≡ true → (reserve_by wi
 first_room true room test = omega arith
 first_room false room test = absurd (cc)
 
+-- a run is the plain one where it begins by reserving a room, no later item asks for more, and each batch fits that room
 pub plain_with_room : RoomMakesPlain
 plain_with_room room items replies limit run least fits =
     let after = (plain_step empty_state (reserve room)).1 in
@@ -117,6 +118,7 @@ plain_with_room room items replies limit run least fits =
     ) in
     record { same = plain_alone empty_state (reserve room ∷ items) (reserved ∷ replies) run plain; plain = plain }
 
+-- the items have exactly one run in which nothing is refused for memory
 pub one_plain_run : (items : List Item) → HasOnePlainRun items
 one_plain_run items = record {
   runs = plain_is_run empty_state items;

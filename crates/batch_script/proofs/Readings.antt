@@ -107,13 +107,14 @@ few_numbers (Insert number) = omega arith
 few_numbers (Remove number) = omega arith
 few_numbers (Truncate kept) = omega arith
 
--- what is no word with up to two numbers goes on nowhere
+-- a line that is no word with up to two numbers is no first line of an item
 pub none_starts : (line : Line) → HasNoParts line → ¬ StartsItem line
 none_starts line never starts =
     let parts = first_parts starts.0 starts.1 in
     never (first_word starts.0) (first_numbers starts.0) parts.1
     (subst (λ l. HasParts l (first_word starts.0) (first_numbers starts.0)) (sym starts.2) parts.0)
 
+-- a line that is no word with up to two numbers is no command and ends no batch
 pub none_goes_on : (line : Line) → HasNoParts line → ¬ GoesOn line
 none_goes_on line never (inl one) =
     never (word_of one.0) (numbers_of one.0) (few_numbers one.0)
@@ -171,10 +172,12 @@ fewer_open : (lines : List Line) (count fewer : ℕ) → fewer ≤ count → IsO
 fewer_open lines count fewer below opened =
     subst IsOpen (take-take fewer count lines below) (IsOpen-take (take count lines) fewer opened)
 
+-- where line comes after the first count lines, the first count + 1 lines are those and line
 pub take_next : (lines : List Line) (count : ℕ) (line : Line) (later : List Line) → drop count lines ≡ line ∷ later
     → take (count + 1) lines ≡ take count lines ++ line ∷ []
 take_next lines count line later next = take-add count 1 lines ∙ ap (λ rest. take count lines ++ take 1 rest) next
 
+-- where line comes after the first count lines, and then later, later is what comes after the first count + 1 lines
 pub drop_next : (lines : List Line) (count : ℕ) (line : Line) (later : List Line) → drop count lines ≡ line ∷ later
     → drop (count + 1) lines ≡ later
 drop_next lines count line later next = sym (drop-drop 1 count lines) ∙ ap (drop 1) next

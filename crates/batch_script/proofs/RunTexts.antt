@@ -96,5 +96,6 @@ same_run state (item ∷ items) (reply ∷ replies) (other ∷ others) run cours
     let later : replies ≡ others = same_run course.0 items replies others (subst (λ s. Run s items replies) step.1 run.2) course.2 rest in
     cc
 
+-- two runs of the same items from the empty state with the same text have the same replies
 pub one_run : TextTellsRun
 one_run items replies others = same_run empty_state items replies others

@@ -68,6 +68,7 @@ same_command command other valid sound same =
     ∙ (λ i. command_of (parts.0 i) (get_or (parts.1 i) 0 0) (get_or (parts.1 i) 1 0))
     ∙ same_again other
 
+-- the line that ends a batch has no space, and is a word that ends a batch
 pub end_word : (ending : End) → (has_space (end_line ending) ≡ false) × (is_end (end_line ending) ≡ true)
 end_word Commit = (refl, refl)
 end_word Abort = (refl, refl)
@@ -145,6 +146,7 @@ same_item (batch commands ending) (batch others end) rest more valid sound same 
     let ends : ending ≡ end = parts.1 in
     (cc, parts.2)
 
+-- the lines of an item, and what follows them, are never none
 pub no_lines_left : (item : Item) (rest : List Line) → [] ≡ printed_lines item ++ rest → ⊥
 no_lines_left (reserve number) rest same = let bad : _ = same in cc
 no_lines_left show rest same = let bad : _ = same in cc
