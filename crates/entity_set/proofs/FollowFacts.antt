@@ -16,6 +16,7 @@ pub record IsFollowing (jumps : ℕ → ℕ) (first before work done : FinSet na
   pub closed : (b : ℕ) → contains done b ≡ true → contains before b ≡ false
       → (contains done (jumps b) ≡ true) ⊎ (contains work (jumps b) ≡ true)
 
+-- at the start the blocks of first are on the worklist, and those of before are done
 pub following-starts : (jumps : ℕ → ℕ) (first before : FinSet nat_cmp) → IsFollowing jumps first before first before
 following-starts jumps first before = record {
   kept = λ b has. has;
@@ -23,6 +24,7 @@ following-starts jumps first before = record {
   closed = λ b has hasn't. absurd (cc);
 }
 
+-- where the worklist is empty, all blocks of first are followed
 pub following-ends : (jumps : ℕ → ℕ) (first before work done : FinSet nat_cmp) → IsFollowing jumps first before work done → work ≡ empty
     → IsFollowed jumps first before done
 following-ends jumps first before work done way none = record {
@@ -89,6 +91,7 @@ len-taken s b has = ⊎_elim
 abbrev pub to_do : ℕ → FinSet nat_cmp → FinSet nat_cmp → ℕ
 to_do n work done = 2 * (n - len done) + len work
 
+-- less is to do once a block that was done before is taken off the worklist
 pub fewer-known : (n b : ℕ) (work done : FinSet nat_cmp) → contains work b ≡ true → contains done b ≡ true
     → to_do n (remove work b) (insert done b) < to_do n work done
 fewer-known n b work done on is =
@@ -97,6 +100,7 @@ fewer-known n b work done on is =
     let same = rw is at e in
     omega arith
 
+-- less is to do once a block is taken off the worklist and newly done, though another is put on it; all done are below n
 pub fewer-new : (n b c : ℕ) (work done : FinSet nat_cmp) → contains work b ≡ true → contains done b ≡ false → AllBelow n (insert done b)
     → to_do n (insert (remove work b) c) (insert done b) < to_do n work done
 fewer-new n b c work done on isn't below =

@@ -50,7 +50,7 @@ successor_pushed (x ∷ cs) to c h = ⊎_elim
     (λ later. ⊎_elim (λ old. inl (or_right _ _ old)) (λ new. inr new) (successor_pushed cs to c later))
     (or_cases (nat_eq x.0 c) _ h)
 
--- an edge more
+-- edges stay within a graph when a block of it gets one more successor, which is a block of it too
 pub edges_added : (g : List Body) (from : ℕ) (to : Block) (old new : Body) → from < length g → to.0 < length g → EdgesStayWithin g
     → slice_get g from ≡ Some old
     → new ≡ (old.0, old.1 ++ to ∷ []) → EdgesStayWithin (set g from new)
@@ -59,6 +59,7 @@ edges_added g from to old new below within_to within at_from is = edges_set g fr
     (λ e. let lt : to.0 < length g = within_to in let same : to.0 ≡ c = e in omega arith)
     (successor_pushed old.1 to c (rw (← ap (λ (x : Body). x.1) is) among)))
 
+-- writing over a block its old body with one more successor adds the edge to that successor
 pub edge_added : (g : List Body) (from : ℕ) (to : Block) (old new : Body) → slice_get g from ≡ Some old → new ≡ (old.0, old.1 ++ to ∷ [])
     → set g from new ≡ with_edge g from to
 edge_added g from to old new at_from is =

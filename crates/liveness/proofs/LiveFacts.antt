@@ -50,6 +50,7 @@ test_at (Def w ∷ before) after v h =
 pub test_from_exposed : (ops : List Op) (v : ℕ) → HasExposedUse ops v → exposes ops v ≡ true
 test_from_exposed ops v h = rw h.parts (test_at h.before h.after v h.undefined)
 
+-- where m holds of some block among cs, there is a c that is among cs and of which m holds
 pub any_member : (m : ℕ → Bool) (cs : List Block) → list_any (λ s. m s.0) cs ≡ true
     → (c : ℕ) × ((list_any (λ s. nat_eq s.0 c) cs ≡ true) × (m c ≡ true))
 any_member m [] h = absurd (cc)
