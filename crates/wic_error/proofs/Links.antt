@@ -44,6 +44,7 @@ module _ {K : Type 0} where
     find-newest kept place it =
         rw (it.parts, reverse_parts it.older it.newer it.found, find-append test (reverse it.newer), it.none_newer, it.passes)
 
+    -- at the place of the newest link to pass the test lies the link that was found
     pub get-newest : (kept : List K) (place : ℕ) (it : IsNewestWith test kept place) → slice_get kept place ≡ Some it.found
     get-newest kept place it = rw (it.parts, ← it.at) (at_seam it.older it.newer it.found)
 
@@ -86,6 +87,7 @@ module _ {K : Type 0} where
   items_of-error_of [] root = refl
   items_of-error_of (newest ∷ front) root = ap (link newest ∷◌) (map-append link front (root ∷ []))
 
+  -- the chain of an error with kept links ends in the root, the first link that is kept
   pub ends_in_root : (kept : List K) (root : K) → slice_get kept 0 ≡ Some root → EndsIn (items_of (error_of (reverse kept))) (link root)
   ends_in_root [] root none = let bad : None ≡ Some root = none in cc
   ends_in_root (first ∷ rest) root there =
@@ -94,14 +96,17 @@ module _ {K : Type 0} where
 
 -- The first link with a number, by the place where it lies.
 module _ {K : Type 0} (number : K → ℕ) (wanted : ℕ) (repr : Repr K) where
+  -- where no kept link has the wanted number, the error has no first link with it
   pub first_none : find (λ k. number k == wanted) (reverse (kept_of repr)) ≡ None → first_with number wanted (seen repr) ≡ None
   first_none none = rw (links_of-seen repr) none
 
+  -- the error's first link with the wanted number is the kept link at the place of the newest with it
   pub first_found : (place : ℕ) → IsNewestWith (λ k. number k == wanted) (kept_of repr) place
       → first_with number wanted (seen repr) ≡ slice_get (kept_of repr) place
   first_found place it =
       rw (links_of-seen repr) (find-newest _ (kept_of repr) place it ∙ sym (get-newest _ (kept_of repr) place it))
 
+  -- there is a place of the newest kept link with the wanted number exactly where the error has a first link with it
   pub is_first : (place : Option ℕ)
       → MatchOption place (find (λ k. number k == wanted) (reverse (kept_of repr)) ≡ None)
       (IsNewestWith (λ k. number k == wanted) (kept_of repr))
@@ -111,6 +116,7 @@ module _ {K : Type 0} (number : K → ℕ) (wanted : ℕ) (repr : Repr K) where
 
 -- Writing over that link.
 module _ {K : Type 0} (number : K → ℕ) (wanted : ℕ) where
+  -- writing over the newest kept link with the wanted number is writing over the error's first link with it
   pub seen-with_kept : (repr : Repr K) (place : ℕ) (written : K) → IsNewestWith (λ k. number k == wanted) (kept_of repr) place
       → seen (with_kept repr place written) ≡ with_first number wanted (seen repr) written
   seen-with_kept (Oom size) place written it = refl

@@ -37,25 +37,29 @@ pub report-causes : (newest : List ℕ) (causes : List (List ℕ)) → 0 < lengt
 report-causes newest [] some = absurd (omega arith)
 report-causes newest (cause ∷ causes) some = refl
 
--- How many digits a number has.
+-- a number below 10 has one digit
 pub one_digit : (n : ℕ) → n < 10 → length (decimal n) ≡ 1
 one_digit n small = ap length (decimal_digit n small)
 
+-- a number from 10 to below 2 ^ 64 has one digit more than its tenth part, rounded down
 pub one_digit_more : (n : ℕ) → 10 ≤ n → n < 2 ^ 64 → length (decimal n) ≡ length (decimal (n / 10)) + 1
 one_digit_more n large small = ap length (decimal_step n large small) ∙ length-append (decimal (n / 10)) _
 
+-- a number from 10 to below 100 has two digits
 pub two_digits : (n : ℕ) → 10 ≤ n → n < 100 → length (decimal n) ≡ 2
 two_digits n large small = omega (arith, one_digit_more n large (omega arith), one_digit (n / 10) (omega arith))
 
+-- a number from 100 to below 1000 has three digits
 pub three_digits : (n : ℕ) → 100 ≤ n → n < 1000 → length (decimal n) ≡ 3
 three_digits n large small =
     omega (arith, one_digit_more n (omega arith) (omega arith), two_digits (n / 10) (omega arith) (omega arith))
 
+-- a number from 1000 to below 10000 has four digits
 pub four_digits : (n : ℕ) → 1000 ≤ n → n < 10000 → length (decimal n) ≡ 4
 four_digits n large small =
     omega (arith, one_digit_more n (omega arith) (omega arith), three_digits (n / 10) (omega arith) (omega arith))
 
--- a number of five digits or more
+-- a number from 10000 to below 2 ^ 64 has five digits or more
 pub many_digits : (n : ℕ) → 10000 ≤ n → n < 2 ^ 64 → 5 ≤ length (decimal n)
 many_digits n large small =
     let one = one_digit_more n (omega arith) small in
