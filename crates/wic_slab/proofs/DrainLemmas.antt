@@ -76,6 +76,7 @@ module _ {X : Type 0} where
   entries_left live place end done outside =
       entries_none live (λ q. elim (cases_lt q place) [ inl below ↦ outside q (inl below) | inr above ↦ outside q (inr (omega arith)) ])
 
+  -- where no id is live outside the places from place to below end, nor at place, none is outside those from place + 1 on
   pub NoneOutside-past : (live : FinMap nat_cmp X) (place end : ℕ) → get live place ≡ None → NoneOutside live place end
       → NoneOutside live (place + 1) end
   NoneOutside-past live place end none outside id where_it_is =
@@ -84,6 +85,7 @@ module _ {X : Type 0} where
         | inr differs ↦ outside id (elim where_it_is [ inl below ↦ inl (omega arith) | inr above ↦ inr above ])
       ]
 
+  -- where no id is live outside the places from place to below end, none is outside those from place + 1 once place is taken out
   pub NoneOutside-removed : (live : FinMap nat_cmp X) (place end : ℕ) → NoneOutside live place end
       → NoneOutside (remove live place) (place + 1) end
   NoneOutside-removed live place end outside =
@@ -93,11 +95,13 @@ module _ {X : Type 0} where
         | inr differs ↦ get-remove_other live place id differs ∙ outside id where_it_is
       ])
 
+  -- the pairs that calls of `next` give are those that were still to come, in their order
   pub drain_in_order : YieldsInOrder (DrainSteps {T = X}) drain_pairs
   drain_in_order run seen = as_is run (drain_pairs run.from)
       (from_front (DrainSteps {T = X}) (λ x. x) drain_pairs (λ s t none. ap length none.0.0)
       (λ s x t some. some.0) run seen)
 
+  -- however many pairs are taken out of a drain, it drains the same slab and leaves it the same capacity
   pub drain_keeps_along : (first : Drain X) → DrainKeepsAlong first
   drain_keeps_along first [] later same = subst (DrainKeeps first) same (refl, refl)
   drain_keeps_along first (x ∷ items) later steps =

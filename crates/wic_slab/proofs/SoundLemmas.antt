@@ -104,10 +104,12 @@ module _ {X : Type 0} where
       let read = ap (chain es next) many ∙ chain-linked es next o.vacant _ sound.linked in
       ap (λ vacant. record { vacant = vacant; fresh = o.fresh }) read
 
+  -- where entries are sound with the order o and fresh is its first fresh id, the order that is read from the fields is o
   pub same_order : (es : List (Entry X)) (count next fresh : ℕ) (o : Order) → IsSound es count next o → fresh ≡ o.fresh
       → order_of es next count fresh ≡ o
   same_order es count next fresh o sound same = rw same (order_of-sound es count next o sound)
 
+  -- where entries are sound with the order o and fresh is its first fresh id, they are sound with the order that is read
   pub sound_again : (es : List (Entry X)) (count next fresh : ℕ) (o : Order) → IsSound es count next o → fresh ≡ o.fresh
       → IsSound es count next (order_of es next count fresh)
   sound_again es count next fresh o sound same = subst (IsSound es count next) (sym (same_order es count next fresh o sound same)) sound
@@ -139,6 +141,7 @@ module _ {X : Type 0} where
   full_at_end es count next o sound at_end =
       no_places o.vacant o.fresh (length es) sound.within (none_at_end es next _ sound.linked at_end)
 
+  -- where the vacant list of sound entries starts at their end, count is the number of entries
   pub count_at_end : (es : List (Entry X)) (count next : ℕ) (o : Order) → IsSound es count next o → next ≡ length es → count ≡ length es
   count_at_end es count next o sound at_end =
       let full = full_at_end es count next o sound at_end in
@@ -280,9 +283,11 @@ module _ {X : Type 0} where
         at_most = omega arith;
       }
 
+  -- where there are no entries, the map of live ids is empty
   pub live_of-empty : (es : List (Entry X)) → es ≡ [] → live_of es ≡ empty
   live_of-empty es none = ap live_of none ∙ same_map_from_get _ _ (λ q. get-live_of [] q ∙ sym (get-empty nat_cmp q))
 
+  -- where there are no entries, they are sound with 0 live ids, the vacant list at 0 and the order that starts at 0
   pub IsSound-empty : (es : List (Entry X)) → es ≡ [] → IsSound es 0 0 from_zero
   IsSound-empty es none = rw none
       (record {
@@ -311,12 +316,14 @@ module _ {X : Type 0} where
       let o = order_of es next count fresh in
       sound_again _ _ _ _ _ (IsSound-push es count next o value sound at_end room) (risen_fresh es count next fresh sound)
 
+  -- once the next entry is put at the end, the order that is read is the one before with its next id taken
   pub pushed_order : (es : List (Entry X)) (count next fresh : ℕ) (value : X) → IsSound es count next (order_of es next count fresh)
       → next ≡ length es → length es < max_capacity
       → order_of (es ++ Occupied value ∷ []) (next + 1) (count + 1) (max fresh (next + 1)) ≡ take_next (order_of es next count fresh)
   pushed_order es count next fresh value sound at_end room =
       same_order _ _ _ _ _ (IsSound-push es count next _ value sound at_end room) (risen_fresh es count next fresh sound)
 
+  -- once the next entry is put at the end, the live ids are those before, with the value under the next id
   pub pushed_live : (es : List (Entry X)) (count next fresh : ℕ) (value : X) → IsSound es count next (order_of es next count fresh)
       → next ≡ length es → live_of (es ++ Occupied value ∷ []) ≡ insert (live_of es) (next_id (order_of es next count fresh)) value
   pushed_live es count next fresh value sound at_end =
@@ -330,12 +337,14 @@ module _ {X : Type 0} where
   filled es count next fresh after value sound before found =
       sound_again _ _ _ _ _ (IsSound-fill es count next after _ value sound before found) (risen_fresh es count next fresh sound)
 
+  -- once the next entry is filled, the order that is read is the one before with its next id taken
   pub filled_order : (es : List (Entry X)) (count next fresh after : ℕ) (value : X)
       → IsSound es count next (order_of es next count fresh) → next ≢ length es → slice_get es next ≡ Some (Vacant after)
       → order_of (set es next (Occupied value)) after (count + 1) (max fresh (next + 1)) ≡ take_next (order_of es next count fresh)
   filled_order es count next fresh after value sound before found =
       same_order _ _ _ _ _ (IsSound-fill es count next after _ value sound before found) (risen_fresh es count next fresh sound)
 
+  -- once the next entry is filled, the live ids are those before, with the value under the next id
   pub filled_live : (es : List (Entry X)) (count next fresh : ℕ) (value : X) → IsSound es count next (order_of es next count fresh)
       → next ≢ length es → live_of (set es next (Occupied value)) ≡ insert (live_of es) (next_id (order_of es next count fresh)) value
   filled_live es count next fresh value sound before =
@@ -351,6 +360,7 @@ module _ {X : Type 0} where
       let o = order_of es next count fresh in
       sound_again _ _ _ _ _ (IsSound-vacate es count next id o value sound found) (sym (fresh-give_back o count id sound.total))
 
+  -- once the entry of a live id is vacated, the order that is read is the one before with that id given back
   pub vacated_order : (es : List (Entry X)) (count next fresh id : ℕ) (value : X) → IsSound es count next (order_of es next count fresh)
       → get (live_of es) id ≡ Some value
       → order_of (set es id (Vacant next)) id (count - 1) (cond (nat_eq count fresh && nat_eq (id + 1) fresh) id fresh) ≡ give_back
