@@ -158,15 +158,22 @@ module _ {X : Type 0} where
 
   -- how far a batch has come: what it comes to is what is still to come comes to here
   pub record IsAlong (total : ℕ) (first now : Workspace X) (done : List (Command X)) : Type 0 where
+    -- the first bad command of done and more is that of more from here, its number counted from the first of done
     pub bad : (more : List (Command X))
         → first_bad first.contents (done ++ more) ≡ option_map (later_by (length done)) (first_bad now.contents more)
+    -- the contents after done and more are those after more from here
     pub contents : (more : List (Command X)) → contents_after first.contents (done ++ more) ≡ contents_after now.contents more
+    -- the records of done and more are those so far, and then those of more from here
     pub records : (more : List (Command X)) → records_after first.contents (done ++ more) ≡ now.records ++ records_after now.contents more
+    -- where done and more stay within the room, so does more: by a count of at least records + total - done, at most the capacity
     pub counted : (more : List (Command X)) → StaysWithin first.room total first.contents (done ++ more)
         → (count : ℕ) × StaysWithin first.room count now.contents more × (length now.records + total ≤ count + length done)
         × (count ≤ now.capacities.records)
+    -- undoing the records so far gives the contents at first
     pub back : undo_all now.records now.contents ≡ first.contents
+    -- the room is as at first
     pub room : now.room ≡ first.room
+    -- no capacity is lower than at first
     pub grows : Grows first.capacities now.capacities
 
   -- a batch has come no command far, where there are no records yet and the capacity is for total of them or more

@@ -58,9 +58,13 @@ cause_text-kind cause why is = rw is refl
 -- a run of all items, as far as it has come: the replies so far are written, and any run of the items that are left
 -- goes on from them
 pub record IsUnderWay (all : List Item) (workspace : Workspace ℕ) (text : List ℕ) (left : List SourceItem) (count : ℕ) : Type 0 where
+  -- the replies so far
   pub replies : List Reply
+  -- the text is that of these replies
   pub written : text ≡ text_of replies
+  -- with the replies so far before it, a run of the items that are left is a run of all items
   pub goes_on : (later : List Reply) → Run (state_of workspace) (plain_items left) later → Run empty_state all (replies ++ later)
+  -- count is the number of items that are left
   pub counted : count ≡ length left
 
 -- it goes on by one item

@@ -11,8 +11,11 @@ use Rattle.entity_set.specs.Follows.{IsFollowed}
 
 -- on the way: each block is done or still on the worklist
 pub record IsFollowing (jumps : ℕ → ℕ) (first before work done : FinSet nat_cmp) : Type 0 where
+  -- the blocks of before are done
   pub kept : (b : ℕ) → contains before b ≡ true → contains done b ≡ true
+  -- each block of first is done or on the worklist
   pub taken : (b : ℕ) → contains first b ≡ true → (contains done b ≡ true) ⊎ (contains work b ≡ true)
+  -- where a block jumps that is done and not of before, that block is done or on the worklist
   pub closed : (b : ℕ) → contains done b ≡ true → contains before b ≡ false
       → (contains done (jumps b) ≡ true) ⊎ (contains work (jumps b) ≡ true)
 
