@@ -1,9 +1,9 @@
 -- Records taken back, the newest first.
 use Rattle.std.specs.Prelude.{⊤, ◌≡◌, ℕ, ◌<◌, ◌≤◌, true, false, List, [], ◌∷◌, ◌++◌, IsTrue, length, drop, slice_set}
-use Rattle.std.specs.Ordering.{nat_cmp}
 use Rattle.std.specs.FinMap.{insert, remove, contains_key, len}
-use Rattle.std.specs.FinSet.{FinSet, contains, insert as with_member, remove as without_member}
+use Rattle.std.specs.FinSet.{insert as with_member, remove as without_member}
 use Rattle.wic_slab.specs.Order.{next_id, take_next, give_back}
+use Rattle.wic_bitset.specs.Compound.{AllBelow}
 use Rattle.batch_core.specs.State.{Contents, max_member}
 use Rattle.batch_core.specs.Command.{without_last}
 use Rattle.batch_core.specs.declared.record.Record.{Record}
@@ -25,15 +25,11 @@ pub record Grows (old new : Capacities) : Type 0 where
   pub table : old.table ≤ new.table
   pub records : old.records ≤ new.records
 
--- each number of the set is below this one
-abbrev pub AllBelow : FinSet nat_cmp → ℕ → Type 0
-AllBelow set end = (number : ℕ) → contains set number ≡ true → number < end
-
 module _ {T : Type 0} where
   -- list, set and table are within the capacities
   pub record IsWithin (within : Capacities) (contents : Contents T) : Type 0 where
     pub list : length contents.list ≤ within.list
-    pub set : AllBelow contents.set within.set
+    pub set : AllBelow within.set contents.set
     pub table : len contents.live ≤ within.table
 
   -- the contents once this record is undone

@@ -6,7 +6,8 @@ use Rattle.std.specs.FinMap.{FinMap, code, len}
 use Rattle.std.specs.FinSet.{FinSet, code as set_code}
 use Rattle.batch_core.specs.State.{Contents}
 use Rattle.batch_core.specs.Command.{cause_of, effect_of, records_of}
-use Rattle.batch_core.specs.Back.{Capacities, AllBelow, CanGoBack}
+use Rattle.batch_core.specs.Back.{Capacities, CanGoBack}
+use Rattle.wic_bitset.specs.Compound.{AllBelow}
 use Rattle.batch_core.specs.Room.{Passes}
 use Rattle.batch_core.specs.declared.command.Cause.{Cause}
 use Rattle.batch_core.specs.declared.command.Cause.TheVariants.{Oom}
@@ -73,7 +74,7 @@ module _ {T : Type 0} where
   -- the command, once it took effect, stays within the capacities
   pub record HasRoom (s : Workspace T) (command : Command T) : Type 0 where
     pub list : length (effect_of s.contents command).list ≤ s.capacities.list
-    pub set : AllBelow (effect_of s.contents command).set s.capacities.set
+    pub set : AllBelow s.capacities.set (effect_of s.contents command).set
     pub table : len (effect_of s.contents command).live ≤ s.capacities.table
     pub records : length s.records + length (records_of s.contents command) ≤ s.capacities.records
 

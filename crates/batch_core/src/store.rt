@@ -3,10 +3,10 @@ ghost use Rattle.std.specs.Prelude.{◌≡◌, ◌+◌, ◌<◌, ◌≤◌, ◌�
 ghost use Rattle.std.specs.Prelude.{IsTrue, IsOk, IsSome, IfSome, IfErr, OnOk, OnErr};
 ghost use Rattle.std.specs.FinMap.{contains_key, len};
 ghost use Rattle.wic_slab.specs.Order.{max_capacity};
-ghost use Rattle.batch_core.specs.Back.{AllBelow, Grows, IsWithin, CanUndo, CanGoBack, undo_record, back};
+ghost use Rattle.batch_core.specs.Back.{Grows, IsWithin, CanUndo, CanGoBack, undo_record, back};
 ghost use Rattle.batch_core.specs.State.{no_contents, IsSound};
 ghost use Rattle.batch_core.specs.Command.{cause_of, effect_of, unless};
-ghost use Rattle.wic_bitset.specs.Compound.{capacity_of};
+ghost use Rattle.wic_bitset.specs.Compound.{AllBelow, capacity_of};
 ghost use Rattle.batch_core.specs.Same.{HaveSameContents};
 ghost use Rattle.batch_core.specs.Workspace.{IsDone, IsKept, HasRoom, IsCauseOf};
 
@@ -39,7 +39,7 @@ impl<T: Drop> Model for Store<T> {
     ghost use Rattle.std.specs.Ordering.{nat_cmp};
     ghost use Rattle.std.specs.FinMap.{code};
     ghost use Rattle.std.specs.FinSet.{code as set_code};
-    ghost use Rattle.wic_bitset.specs.Compound.{capacity_of};
+    ghost use Rattle.wic_bitset.specs.Compound.{AllBelow, capacity_of};
     ghost use Rattle.batch_core.specs.Workspace.{Workspace as Held};
 
     ghost Value = { Held T };
@@ -245,7 +245,7 @@ impl<T: Drop> Store<T> {
         ensures err { OnErr result (IsKept self.old self.new) }
         ensures room { self.new.room ≡ self.old.room }
         ensures grows { Grows self.old.capacities self.new.capacities }
-        ensures never_refused_within { AllBelow (effect_of self.old.contents (Command.Insert number)).set self.old.capacities.set
+        ensures never_refused_within { AllBelow self.old.capacities.set (effect_of self.old.contents (Command.Insert number)).set
             → IsOk result }
     {
         let was_new = self.set.insert(number as usize)?;

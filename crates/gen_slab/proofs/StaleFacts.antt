@@ -43,7 +43,9 @@ not_now generation count (inr same) apart = absurd (apart same)
 module _ {X : Type 0} where
   -- the handle is dead, and no later generation is its own
   record IsGone (s : GenState X) (handle : Handle) : Type 0 where
+    -- nothing is found under the handle
     pub dead : value_of s handle ≡ None
+    -- its generation is below the count, or none is given any more
     pub past : (handle.generation < s.count) ⊎ (s.count ≡ last_count)
 
   -- another generation finds nothing
@@ -90,6 +92,7 @@ module _ {X : Type 0} where
     at_most = fresh.at_most;
   }
 
+  -- it stays so when the next id gets a value with the generation of the count
   pub counted_next : (s : GenState X) (value : X) → IsCounted s → IsCounted (with_next s value)
   counted_next s value was = record {
     counted = λ id held found. ⊎_elim
@@ -101,6 +104,7 @@ module _ {X : Type 0} where
     at_most = was.at_most;
   }
 
+  -- and when a handle is taken out
   pub counted_without : (s : GenState X) (handle : Handle) → IsCounted s → IsCounted (without s handle)
   counted_without s handle was = record {
     counted = λ id held found. ⊎_elim
@@ -223,6 +227,7 @@ module _ {X : Type 0} where
       gone_all leads.0 last steps handle (counted_step s leads.0 step was leads.1)
       (gone_step s leads.0 step handle was gone leads.1) leads.2
 
+  -- a handle whose value was given back finds nothing from then on
   pub stale_stays_stale : StaleStaysStale X
   stale_stays_stale first before last steps more handle fresh leads some later =
       let was = counted_all first before steps (counted_fresh first fresh) leads in

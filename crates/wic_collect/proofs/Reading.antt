@@ -32,6 +32,7 @@ module _ {S X E : Type 0} (steps : S → Option X → S → Type 0) (as_result :
     pub yields_from_reads : (s t : S) (values : List X) → Reads steps as_result s values t → Yields steps s values t
     yields_from_reads s t values read = subst (λ l. Yields steps s l t) (same_values read.0 values read.2) read.1
 
+    -- an iterator that was read to its end gave just these values
     pub drains_from_reads : (s : S) (values : List X) → ReadsAll steps as_result s values → Drains steps s values
     drains_from_reads s values read = (read.1, (read.0, yields_from_reads s read.0 values read.2, read.3))
 
@@ -51,6 +52,7 @@ module _ {S T E : Type 0} (steps : S → Option (Result T E) → S → Type 0) (
     pub results_from_reads : (s t : S) (values : List T) → Reads steps as_result s values t → Yields steps s (map Ok values) t
     results_from_reads s t values read = subst (λ l. Yields steps s l t) (sym (same_items read.0) ∙ read.2) read.1
 
+    -- an iterator over results that was read to its end gave just these values, each as an Ok
     pub drains_results : (s : S) (values : List T) → ReadsAll steps as_result s values → Drains steps s (map Ok values)
     drains_results s values read = (read.1, (read.0, results_from_reads s read.0 values read.2, read.3))
 

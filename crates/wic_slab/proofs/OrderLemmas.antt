@@ -1,7 +1,7 @@
 -- How taking the next id and giving one back change the order.
-use Rattle.std.proofs.Common.{max, length, ◌-◌, ◌≡◌, ◌≢◌, ℕ, ◌+◌, ◌<◌, ◌≤◌, Bool, true, false, cond, not, ◌&&◌, ◌||◌, List, [], ◌∷◌}
+use Rattle.std.proofs.Common.{max, length, ◌-◌, ◌≡◌, ◌≢◌, ℕ, ◌+◌, ◌<◌, ◌≤◌, Bool, true, false, cond, not, ◌&&◌, List, [], ◌∷◌}
 use Rattle.std.proofs.Common.{nat_eq, nat_lt, is_some, inl, inr, refl, sym, ap, ◌∙◌, arith, nat_cmp}
-use Rattle.std.proofs.lemmas.Bool.{cases_eq}
+use Rattle.std.proofs.lemmas.Bool.{cases_eq, or_parts}
 use Rattle.std.proofs.lemmas.Bool.Decides.{nat_tests}
 use Rattle.std.specs.List.{AllByRecursion, IsDistinct, list_any}
 use Rattle.std.specs.FinMap.{FinMap, insert, remove, contains_key}
@@ -16,16 +16,6 @@ nat_eq_same k = grind (arith, nat_tests)
 -- nat_eq fails for two different numbers
 pub nat_eq_other : (q k : ℕ) → q ≢ k → nat_eq q k ≡ false
 nat_eq_other q k differs = grind (arith, nat_tests)
-
--- a is false where a || b is false
-pub left_false_from_or : (a b : Bool) → (a || b) ≡ false → a ≡ false
-left_false_from_or true b e = absurd (cc)
-left_false_from_or false b e = refl
-
--- b is false where a || b is false
-pub right_false_from_or : (a b : Bool) → (a || b) ≡ false → b ≡ false
-right_false_from_or true b e = absurd (cc)
-right_false_from_or false b e = e
 
 first_of : (a b : Bool) → (a && not b) ≡ true → a ≡ true
 first_of true b e = refl
@@ -60,7 +50,7 @@ not_any_from_all id (other ∷ ids) all = rw all.0 (not_any_from_all id ids all.
 all_from_not_any : (id : ℕ) (ids : List ℕ) → list_any (nat_eq id) ids ≡ false → AllByRecursion (λ other. nat_eq id other ≡ false) ids
 all_from_not_any id [] none = tt
 all_from_not_any id (other ∷ ids) none =
-    (left_false_from_or (nat_eq id other) _ none, all_from_not_any id ids (right_false_from_or (nat_eq id other) _ none))
+    ((or_parts (nat_eq id other) _ none).0, all_from_not_any id ids (or_parts (nat_eq id other) _ none).1)
 
 -- a number that each of a list is below is none of them
 not_any_above : (bound id : ℕ) (ids : List ℕ) → bound ≤ id → AllByRecursion (λ other. other < bound) ids

@@ -2,7 +2,7 @@
 use Rattle.std.proofs.Common.{min, cond, true≢false, ◌≡◌, ◌≢◌, ℕ, zero, suc, ◌+◌, ◌-◌, ◌<◌, ◌≤◌, max, true, false, not, List, [], ◌∷◌}
 use Rattle.std.proofs.Common.{◌++◌, length, get_or, set, nat_eq, nat_lt, ◌&&◌, Some, is_some, slice_get, inl, inr, refl, sym, ap, subst}
 use Rattle.std.proofs.Common.{◌∙◌, arith, nat_cmp, length-set}
-use Rattle.std.proofs.lemmas.Bool.{cases_eq}
+use Rattle.std.proofs.lemmas.Bool.{cases_eq, or_parts}
 use Rattle.std.proofs.lemmas.Bool.Decides.{nat_tests}
 use Rattle.std.proofs.lemmas.List.{get_or-set_same, get_or-set_other, length_push}
 use Rattle.std.proofs.lemmas.Option.{slice_get_within, slice_get-get_or, get_or_from_slice_get}
@@ -15,7 +15,7 @@ use Rattle.wic_slab.specs.Slab.{Slab, IsSlab, with_value}
 use Rattle.wic_slab.specs.Entry.{vacant_places, link_of, live_of, chain, order_of, Links, IsSound}
 use Rattle.wic_slab.proofs.LiveLemmas.{len-insert_new, len-insert_again, len-remove_live, len_positive_from_live}
 use Rattle.wic_slab.proofs.LiveLemmas.{contains_key-insert_again, same_map_from_get}
-use Rattle.wic_slab.proofs.OrderLemmas.{nat_eq_same, nat_eq_other, left_false_from_or, right_false_from_or}
+use Rattle.wic_slab.proofs.OrderLemmas.{nat_eq_same, nat_eq_other}
 use Rattle.wic_slab.proofs.OrderLemmas.{next_id_not_live, live_below, live_not_vacant}
 use Rattle.wic_slab.proofs.OrderLemmas.{IsOrder-take_next, IsOrder-give_back, BelongsTo-take_next, BelongsTo-give_back, taken_not_vacant}
 use Rattle.wic_slab.proofs.OrderLemmas.{taken_below_fresh, fresh-take_next, total-take_next, total-give_back, fresh-give_back}
@@ -31,7 +31,7 @@ not_any-append : (k : ℕ) (xs ys : List ℕ) → list_any (nat_eq k) xs ≡ fal
     → list_any (nat_eq k) (xs ++ ys) ≡ false
 not_any-append k [] ys none rest = rest
 not_any-append k (x ∷ xs) ys none rest =
-    rw (left_false_from_or (nat_eq k x) _ none) (not_any-append k xs ys (right_false_from_or (nat_eq k x) _ none) rest)
+    let parts = or_parts (nat_eq k x) _ none in rw parts.0 (not_any-append k xs ys parts.1 rest)
 
 -- an id below the fresh ones that isn't vacant is none of the vacant places
 not_any_place : (o : Order) (count k : ℕ) → is_vacant o k ≡ false → k < o.fresh → list_any (nat_eq k) (vacant_places o count) ≡ false
@@ -84,10 +84,10 @@ module _ {X : Type 0} where
       let kept : slice_get (set es k e) place ≡ Some (Vacant links.1) =
       slice_get-get_or (set es k e) place e (omega (arith, length-set es k e))
       ∙ ap Some (get_or-set_other es k place e e other ∙ get_or_from_slice_get es place _ e links.2) in
-      (links.0, links.1, kept, Links-set es k e links.1 places (right_false_from_or (nat_eq k place) _ none) links.3)
+      (links.0, links.1, kept, Links-set es k e links.1 places (or_parts (nat_eq k place) _ none).1 links.3)
     where
       apart : place ≡ k → ⊥
-      apart same = true≢false (sym (rw same (nat_eq_same k)) ∙ left_false_from_or (nat_eq k place) _ none)
+      apart same = true≢false (sym (rw same (nat_eq_same k)) ∙ (or_parts (nat_eq k place) _ none).0)
 
   -- the chain that is read from the entries is what they link
   chain-linked : (es : List (Entry X)) (from : ℕ) (places rest : List ℕ) → Links es from (places ++ rest)

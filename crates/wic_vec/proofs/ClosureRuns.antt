@@ -19,9 +19,11 @@ module _ {F X : Type 0} where
   run_of_test call f last (b ∷ answers) (x ∷ xs) long said =
       (said.0, said.1, run_of_test call said.0 last answers xs (omega arith) said.2)
 
+  -- keeping what passes is a run of the test over the elements, and the list of those for which it answered true
   pub retains : (call : F → X → Bool → F → Type 0) (f : F) (xs ys : List X) → IsFiltered call f xs ys → Retains call f xs ys
   retains call f xs ys said = (said.0, said.1, run_of_test call f said.1 said.0 xs said.2 said.3, said.4)
 
+  -- the same for a test that may write to what it is asked about
   pub retains_mut : (call : F → X → Bool → F → X → Type 0) (f : F) (xs ys : List X) → RetainsInTurn call f xs ys
       → RetainsMut call f xs ys
   retains_mut call f [] ys said = ([], f, refl, said)

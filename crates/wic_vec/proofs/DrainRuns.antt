@@ -6,11 +6,13 @@ use Rattle.wic_vec.specs.Drain.{drain_items, DrainSteps, DrainKeeps, DrainKeepsA
 use Rattle.wic_vec.specs.declared.vec.drain.Drain.{Drain}
 
 module _ {T : Type 0} where
+  -- the elements that calls of `next` give are those that were still to come, in their order
   pub drain_in_order : YieldsInOrder (DrainSteps {T = T}) drain_items
   drain_in_order run seen = as_is run (drain_items run.from)
       (from_front (DrainSteps {T = T}) (λ x. x) drain_items (λ s t none. ap length none.0)
       (λ s x t some. some.0) run seen)
 
+  -- however many elements are taken out of a drain, it drains the same vector and leaves it what it would have
   pub drain_keeps_along : (first : Drain T) → DrainKeepsAlong first
   drain_keeps_along first [] later same = subst (DrainKeeps first) same (refl, refl, refl)
   drain_keeps_along first (x ∷ items) later steps =
