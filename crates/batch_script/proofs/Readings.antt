@@ -2,7 +2,8 @@
 use Rattle.std.proofs.Common.{◌≡◌, ◌≢◌, ℕ, ◌+◌, ◌<◌, ◌≤◌, List, [], ◌∷◌, ◌++◌, length, take, drop, map, refl, sym, ap, ◌∙◌, subst}
 use Rattle.std.proofs.Common.{inl, inr, arith, append_assoc, length-drop, take-take, Option, Some, None}
 use Rattle.std.specs.Prelude.{codes}
-use Rattle.std.proofs.lemmas.List.{take-append-drop, append-nil, drop-drop}
+use Rattle.std.proofs.lemmas.List.{take-append-drop, append-nil, drop-drop, map-append}
+use Rattle.std.proofs.lemmas.List.Concat.{flat_map-append}
 use Rattle.std.proofs.Math.Seq.{take-add}
 use Rattle.batch_core.specs.declared.command.Command.{Command}
 use Rattle.batch_core.specs.declared.command.Command.TheVariants.{Push, Pop, Set, Alloc, Free, Put, Insert, Remove, Truncate}
@@ -12,7 +13,7 @@ use Rattle.batch_script.specs.Machine.{Item, reserve, show, batch}
 use Rattle.batch_script.specs.Grammar.{Line, IsValidItem, IsValidCommand, word_of, numbers_of, line_of, command_line, end_line}
 use Rattle.batch_script.specs.Grammar.{printed_lines, all_lines, lines_of, IsOpen, IsScript, IsScriptOf, IsFaultLine}
 use Rattle.batch_script.specs.Reading.{AreRead, HasParts, HasNoParts, open_lines, first_word, first_numbers}
-use Rattle.batch_script.proofs.Lists.{AllByRecursion-append, flat_map-append, map-append}
+use Rattle.batch_script.proofs.Lists.{AllByRecursion-append}
 use Rattle.batch_script.proofs.LineFacts.{same_line}
 use Rattle.batch_script.proofs.ScriptFacts.{command_word, end_word}
 use Rattle.batch_script.proofs.Prefixes.{rest-after_items, StartsItem, starts_item, GoesOn, next_line_in_batch, begun_is_no_script}

@@ -3,7 +3,7 @@ use Rattle.batch_script.specs.Generated.{batch_of, generated}
 use Rattle.batch_script.specs.Machine.{reserve}
 use Rattle.batch_script.specs.Reading.{plain_item, plain_items}
 use Rattle.batch_script.proofs.Draws.{number_after-step, made-more}
-use Rattle.batch_script.proofs.Lists.{map-append}
+use Rattle.std.proofs.lemmas.List.{map-append}
 use Rattle.batch_script.proofs.generator.generate.Goals as goal
 
 pub loop-preserved : goal.loop-preserved
