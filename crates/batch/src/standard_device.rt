@@ -2,7 +2,7 @@
 ghost use Rattle.std.specs.Prelude.{⊤, None};
 
 use crate::flushed::write_flushed;
-use batch_script::{Failed, Sink, Source};
+use batch_script::{Device, Failed, Sink, Source};
 use std::io::{Read, Stdin, Stdout};
 
 /// Standard input. It counts the reads that fail.
@@ -18,12 +18,20 @@ impl StdSource {
     }
 }
 
-impl Source for StdSource {
-    ghost left = { λ _. None };
-
+impl Device for StdSource {
     ghost faults = { λ s. s.faults };
 
+    ghost can_call = { λ _. ⊤ };
+
     ghost reaches = { λ _ _ _. ⊤ };
+
+    ghost stays = { λ _. tt };
+
+    ghost goes_on = { λ _ _ _ _ _ _ _. tt };
+}
+
+impl Source for StdSource {
+    ghost left = { λ _. None };
 
     fn read(&mut self, buf: &mut [u8]) -> Result<usize, Failed> {
         match self.input.read(buf) {
@@ -34,10 +42,6 @@ impl Source for StdSource {
             }
         }
     }
-
-    ghost stays = { λ _. tt };
-
-    ghost goes_on = { λ _ _ _ _ _ _ _. tt };
 }
 
 /// Standard output. It counts the writes that fail: an error of a write or of a flush, and a write that takes nothing
@@ -54,12 +58,20 @@ impl StdSink {
     }
 }
 
-impl Sink for StdSink {
-    ghost written = { λ _. None };
-
+impl Device for StdSink {
     ghost faults = { λ s. s.faults };
 
+    ghost can_call = { λ _. ⊤ };
+
     ghost reaches = { λ _ _ _. ⊤ };
+
+    ghost stays = { λ _. tt };
+
+    ghost goes_on = { λ _ _ _ _ _ _ _. tt };
+}
+
+impl Sink for StdSink {
+    ghost written = { λ _. None };
 
     fn write(&mut self, piece: &[u8]) -> Result<usize, Failed> {
         match write_flushed(&mut self.output, piece) {
@@ -70,8 +82,4 @@ impl Sink for StdSink {
             }
         }
     }
-
-    ghost stays = { λ _. tt };
-
-    ghost goes_on = { λ _ _ _ _ _ _ _. tt };
 }

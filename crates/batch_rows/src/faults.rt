@@ -1,8 +1,8 @@
 //! Reads and writes that fail.
 ghost use Rattle.std.specs.Prelude.{⊤, None};
 
-use crate::program::{run_program, vector_of};
-use batch_script::{CountSink, Failed, MemSink, PlainSource, Sink, Source, Status, top};
+use crate::program::{run_in_room, vector_of};
+use batch_script::{CountSink, Device, Failed, MemSink, PlainSource, Sink, Source, Status, top};
 use std::test::Fail;
 use wic_vec::TryVec;
 
@@ -31,7 +31,7 @@ fn each_failed_read_or_write_ends_the_call_and_none_comes_after_the_last(
         (none, [6].as_slice(), Status::Done, all),
         ([1].as_slice(), [2].as_slice(), Status::WriteFault, "err"),
     ] {
-        let answer = run_program(rt.alloc(), &[], SCRIPT, reads, writes)?;
+        let answer = run_in_room(rt.alloc(), 100, &[], SCRIPT, reads, writes)?;
         assert_eq!(rt;
             answer.status,
             status,
@@ -48,7 +48,7 @@ fn each_failed_read_or_write_ends_the_call_and_none_comes_after_the_last(
 
 #[test]
 fn a_failed_write_of_the_usage_is_a_write_fault(rt: HostRuntime) -> Result<(), Fail> {
-    let answer = run_program(rt.alloc(), &["x"], SCRIPT, &[], &[1])?;
+    let answer = run_in_room(rt.alloc(), 100, &["x"], SCRIPT, &[], &[1])?;
     assert_eq!(rt; answer.status, Status::WriteFault);
     assert_eq!(rt; answer.sink.bytes(), b"".as_slice());
     Ok(())
@@ -84,12 +84,20 @@ struct StrictSource {
     faults: u64,
 }
 
-impl Source for StrictSource {
-    ghost left = { λ _. None };
-
+impl Device for StrictSource {
     ghost faults = { λ s. s.faults };
 
+    ghost can_call = { λ _. ⊤ };
+
     ghost reaches = { λ _ _ _. ⊤ };
+
+    ghost stays = { λ _. tt };
+
+    ghost goes_on = { λ _ _ _ _ _ _ _. tt };
+}
+
+impl Source for StrictSource {
+    ghost left = { λ _. None };
 
     fn read(&mut self, buf: &mut [u8]) -> Result<usize, Failed> {
         self.longest = self.longest.max(buf.len());
@@ -108,10 +116,6 @@ impl Source for StrictSource {
             }
         }
     }
-
-    ghost stays = { λ _. tt };
-
-    ghost goes_on = { λ _ _ _ _ _ _ _. tt };
 }
 
 #[test]
@@ -134,7 +138,7 @@ fn reads_ask_for_4096_bytes_and_end_at_the_end(rt: HostRuntime) -> Result<(), Fa
 
 #[test]
 fn no_text_makes_no_write(rt: HostRuntime) -> Result<(), Fail> {
-    let answer = run_program(rt.alloc(), &[], b"", &[], &[1])?;
+    let answer = run_in_room(rt.alloc(), 100, &[], b"", &[], &[1])?;
     assert_eq!(rt; answer.status, Status::Done);
     Ok(())
 }

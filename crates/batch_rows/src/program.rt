@@ -18,10 +18,16 @@ pub fn vector_of<T: Copy>(alloc: Global, elements: &[T]) -> Result<TryVec<T>, Ou
     Ok(all)
 }
 
-/// Runs the program on an input that comes in pieces of four bytes, into a sink that takes three at a time. The reads
-/// and writes with these numbers fail.
-pub fn run_program(
+/// Runs the program on an input, into a sink that has room for all replies of the tests. No read and no write fails.
+pub fn run_program(alloc: Global, words: &[&str], input: &[u8]) -> Result<Answer, OutOfMemory> {
+    run_in_room(alloc, 2000, words, input, &[], &[])
+}
+
+/// Runs the program on an input that comes in pieces of four bytes, into a sink of this room that takes three at a time. The
+/// reads and writes with these numbers fail.
+pub fn run_in_room(
     alloc: Global,
+    room: usize,
     words: &[&str],
     input: &[u8],
     failing_reads: &[u64],
@@ -36,7 +42,7 @@ pub fn run_program(
         4,
         vector_of(alloc, failing_reads)?,
     );
-    let mut sink = MemSink::new(alloc, 2000, 3, vector_of(alloc, failing_writes)?)?;
+    let mut sink = MemSink::new(alloc, room, 3, vector_of(alloc, failing_writes)?)?;
     let status = top(alloc, &given, &mut source, &mut sink);
     Ok(Answer { status, sink })
 }

@@ -1,7 +1,7 @@
 //! Scripts and their replies, and inputs that are no script.
 use crate::program::run_program;
-use batch_core::Command;
-use batch_script::{Item, RunError, Status, parse, run};
+use batch_core::{Batch, Command, End};
+use batch_script::{Item, RunError, Script, Status, parse, run};
 use std::test::Fail;
 
 #[test]
@@ -35,7 +35,7 @@ fn scripts_are_answered_by_the_text_of_their_run(rt: HostRuntime) -> Result<(), 
             "refused: command 1: id is not live\nrefused: command 1: position is not below the length\n",
         ),
     ] {
-        let answer = run_program(rt.alloc(), &[], input.as_bytes(), &[], &[])?;
+        let answer = run_program(rt.alloc(), &[], input.as_bytes())?;
         assert_eq!(rt; answer.status, Status::Done, "at {input:?}");
         assert_eq!(rt; answer.sink.bytes(), text.as_bytes(), "at {input:?}");
     }
@@ -73,12 +73,17 @@ fn what_a_batch_did_is_shown_or_gone(rt: HostRuntime) -> Result<(), Fail> {
              refused: command 1: position is not below the length\nlist 1\nset\ntable\n\
              next 0\n",
         ),
+        // A set is shown by its members, however far apart they are.
+        (
+            "begin\ninsert 10000000\ninsert 0\ncommit\nshow\n",
+            "new\nnew\ncommitted\nlist\nset 0 10000000\ntable\nnext 0\n",
+        ),
         (
             "reserve 5\nbegin\npush 1\npush 2\ncommit\nbegin\npush 3\ntruncate 0\nabort\nshow\n",
             "reserved\nok\nok\ncommitted\naborted\nlist 1 2\nset\ntable\nnext 0\n",
         ),
     ] {
-        let answer = run_program(rt.alloc(), &[], input.as_bytes(), &[], &[])?;
+        let answer = run_program(rt.alloc(), &[], input.as_bytes())?;
         assert_eq!(rt; answer.status, Status::Done, "at {input:?}");
         assert_eq!(rt; answer.sink.bytes(), text.as_bytes(), "at {input:?}");
     }
@@ -135,7 +140,7 @@ fn what_is_no_script_is_refused_at_its_line(rt: HostRuntime) -> Result<(), Fail>
 
 #[test]
 fn a_fault_of_the_script_is_one_line(rt: HostRuntime) -> Result<(), Fail> {
-    let answer = run_program(rt.alloc(), &[], b"begin\npush 1\n", &[], &[])?;
+    let answer = run_program(rt.alloc(), &[], b"begin\npush 1\n")?;
     assert_eq!(rt; answer.status, Status::Syntax);
     assert_eq!(rt;
         answer.sink.bytes(),
@@ -145,20 +150,24 @@ fn a_fault_of_the_script_is_one_line(rt: HostRuntime) -> Result<(), Fail> {
     Ok(())
 }
 
+/// Whether the script is one item, and that a batch of the one command `push 7` that is committed.
+fn is_one_push(script: &Script) -> bool {
+    match script.items.as_slice() {
+        [Item::Batch(Batch { commands, end })] => {
+            commands.as_slice() == [Command::Push(7)].as_slice() && *end == End::Commit
+        }
+        _ => false,
+    }
+}
+
 #[test]
 fn a_script_is_read_as_its_items(rt: HostRuntime) -> Result<(), Fail> {
     let alloc = rt.alloc();
-    let script = parse(alloc, b"begin\npush 7\ncommit\nshow\nreserve 3\n")?;
-    assert_eq!(rt; script.items.len(), 3);
-    for item in script.items {
-        let is_as_read = match item {
-            Item::Batch(batch) => batch.commands.len() == 1
-                && batch.commands[0] == Command::Push(7),
-            Item::Show => true,
-            Item::Reserve(number) => number == 3,
-        };
-        assert!(rt; is_as_read);
-    }
+    assert!(rt; is_one_push(&parse(alloc, b"begin\npush 7\ncommit\n")?));
+    let shown = parse(alloc, b"show")?;
+    assert!(rt; matches!(shown.items.as_slice(), [Item::Show]));
+    let reserved = parse(alloc, b"reserve 3\nshow\n")?;
+    assert!(rt; matches!(reserved.items.as_slice(), [Item::Reserve(3), Item::Show]));
     assert!(rt; matches!(parse(alloc, b"commit"), Err(RunError::Syntax { line: 1 })));
     Ok(())
 }

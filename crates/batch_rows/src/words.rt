@@ -1,5 +1,5 @@
 //! Words of the command line.
-use crate::program::run_program;
+use crate::program::{run_in_room, run_program};
 use batch_script::Status;
 use std::test::Fail;
 
@@ -19,7 +19,7 @@ fn words_that_ask_for_nothing_are_answered_by_the_usage(rt: HostRuntime) -> Resu
         ["gen", "18446744073709551616", "1"].as_slice(),
         ["Gen", "0", "1"].as_slice(),
     ] {
-        let answer = run_program(rt.alloc(), words, b"show\n", &[1], &[])?;
+        let answer = run_in_room(rt.alloc(), 100, words, b"show\n", &[1], &[])?;
         assert_eq!(rt; answer.status, Status::Usage, "at {words:?}");
         assert_eq!(rt;
             answer.sink.bytes(),
@@ -35,7 +35,7 @@ fn a_generated_run_is_answered_by_its_summary_and_nothing_is_read(
     rt: HostRuntime,
 ) -> Result<(), Fail> {
     for seed in ["0", "1", "18446744073709551615"] {
-        let answer = run_program(rt.alloc(), &["gen", seed, "0"], b"no script", &[1], &[])?;
+        let answer = run_in_room(rt.alloc(), 100, &["gen", seed, "0"], b"no script", &[1], &[])?;
         assert_eq!(rt; answer.status, Status::Done, "at {seed:?}");
         assert_eq!(rt;
             answer.sink.bytes(),
@@ -48,7 +48,7 @@ fn a_generated_run_is_answered_by_its_summary_and_nothing_is_read(
 
 #[test]
 fn a_failed_write_of_a_summary_leaves_its_front(rt: HostRuntime) -> Result<(), Fail> {
-    let answer = run_program(rt.alloc(), &["gen", "0", "0"], b"", &[], &[2])?;
+    let answer = run_in_room(rt.alloc(), 100, &["gen", "0", "0"], b"", &[], &[2])?;
     assert_eq!(rt; answer.status, Status::WriteFault);
     assert_eq!(rt; answer.sink.bytes(), b"com".as_slice());
     Ok(())
@@ -68,8 +68,8 @@ fn number_of(line: &[u8]) -> u64 {
 #[test]
 fn equal_words_make_equal_runs_and_each_batch_is_counted_once(rt: HostRuntime) -> Result<(), Fail> {
     let words = ["gen", "1", "1000"];
-    let first = run_program(rt.alloc(), &words, b"", &[], &[])?;
-    let second = run_program(rt.alloc(), &words, b"", &[], &[])?;
+    let first = run_program(rt.alloc(), &words, b"")?;
+    let second = run_program(rt.alloc(), &words, b"")?;
     assert_eq!(rt; first.status, Status::Done);
     assert_eq!(rt; second.status, Status::Done);
     assert_eq!(rt; first.sink.bytes(), second.sink.bytes());

@@ -20,7 +20,7 @@ pub record TakesFirst (left : List ℕ) (left_after : Option (List ℕ)) (buffer
   pub rest : left_after ≡ Some (drop count left)
   pub ended : count ≡ 0 → 0 < length buffer → left ≡ []
 
--- how many calls this one adds to those that moved bytes: none where it failed or moved none
+-- how many calls this one adds to those that moved bytes: none if it failed or moved none
 abbrev pub moves : Result ℕ Failed → ℕ
 moves (Ok count) = min count 1
 moves (Err failed) = 0
@@ -28,3 +28,28 @@ moves (Err failed) = 0
 -- calls led from the one to the other, of which at most so many moved bytes
 abbrev pub AtMost : {D : Type 0} → ℕ → (ℕ → D → D → Type 0) → D → D → Type 0
 AtMost most reaches before after = (calls : ℕ) × (calls ≤ most) × reaches calls before after
+
+-- What a call of the program made of a device: the bytes that it tells, those left of a source or those written to a sink, and its
+-- count of faults, before and after.
+pub record Use : Type 0 where
+  pub told : Option (List ℕ)
+  pub told_after : Option (List ℕ)
+  pub faults : ℕ
+  pub faults_after : ℕ
+
+-- what the call made of this device
+abbrev pub use_of : {D : Type 0} → (D → Option (List ℕ)) → (D → ℕ) → D → D → Use
+use_of told faults before after =
+    record { told = told before; told_after = told after; faults = faults before; faults_after = faults after }
+
+-- a fault was counted in the call
+abbrev pub HasFaults : Use → Type 0
+HasFaults device = Rose device.faults device.faults_after
+
+-- the count of faults is as before
+abbrev pub Keeps : Use → Type 0
+Keeps device = device.faults_after ≡ device.faults
+
+-- this holds of the bytes that the device told before the call, if it tells them
+abbrev pub OfTold : Use → (List ℕ → Type 0) → Type 0
+OfTold device Fact = (bytes : List ℕ) → device.told ≡ Some bytes → Fact bytes

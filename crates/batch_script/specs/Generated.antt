@@ -7,10 +7,6 @@ use Rattle.batch_core.specs.declared.command.End.{End}
 use Rattle.batch_core.specs.declared.command.End.TheVariants.{Commit, Abort}
 use Rattle.batch_script.specs.Machine.{Item, reserve, batch}
 
--- the most batches that a script is made with
-abbrev pub most_batches : ℕ
-most_batches = 100000
-
 -- each number is followed by this one
 abbrev pub next_number : ℕ → ℕ
 next_number number = (number * 6364136223846793005 + 1442695040888963407) % 2 ^ 64

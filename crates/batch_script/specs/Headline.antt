@@ -1,33 +1,29 @@
--- What the whole program promises: for every script the text of one run, or want of memory.
+-- What the whole program promises: for every script the text of one run, or out of memory.
 use Rattle.std.specs.Prelude.{◌≡◌, ℕ, ◌≤◌, List, [], ◌∷◌, ◌++◌, length, codes, Option, Some}
 use Rattle.wic_vec.specs.TryString.{TryString}
 use Rattle.batch_core.specs.State.{empty_state}
-use Rattle.batch_script.specs.Device.{Rose}
+use Rattle.batch_script.specs.Device.{Use, HasFaults}
 use Rattle.batch_script.specs.Grammar.{IsScriptOf}
 use Rattle.batch_script.specs.Machine.{Item, Reply, Run}
 use Rattle.batch_script.specs.Reply.{text_of, text_of_lines}
 use Rattle.batch_script.specs.declared.program.Status.{Status}
 use Rattle.batch_script.specs.declared.program.Status.TheVariants.{Done, Oom}
-
--- the most bytes that an input may have
-abbrev pub input_limit : ℕ
-input_limit = 67108864
+use Rattle.batch_script.specs.declared.program.TheConstants.{INPUT_LIMIT}
 
 -- What the headline supposes of a call, of the input and of the items.
-pub record Premises (words : List TryString) (left written : Option (List ℕ)) (source_before source_after sink_before sink_after : ℕ)
-    (input held : List ℕ) (items : List Item) : Type 0 where
+pub record Premises (words : List TryString) (source sink : Use) (input held : List ℕ) (items : List Item) : Type 0 where
   -- no words are given
   pub no_words : words ≡ []
   -- the source tells its bytes, which are the input
-  pub source_tells : left ≡ Some input
+  pub source_tells : source.told ≡ Some input
   -- and holds no more than the limit
-  pub within_limit : length input ≤ input_limit
+  pub within_limit : length input ≤ INPUT_LIMIT
   -- the sink tells what it holds
-  pub sink_tells : written ≡ Some held
+  pub sink_tells : sink.told ≡ Some held
   -- the source's count of faults didn't rise in the call, nor does it stand at its last value
-  pub source_quiet : ¬ Rose source_before source_after
+  pub source_quiet : ¬ HasFaults source
   -- nor the sink's
-  pub sink_quiet : ¬ Rose sink_before sink_after
+  pub sink_quiet : ¬ HasFaults sink
   -- the input is the script of the items, which are valid
   pub script : IsScriptOf input items
 
@@ -42,7 +38,7 @@ pub record RunsWhole (status : Status) (written : Option (List ℕ)) (held : Lis
   -- the sink holds what it held, followed by their text and nothing else
   pub gained : written ≡ Some (held ++ text_of replies)
 
--- The second outcome: memory was wanted.
+-- The second outcome: out of memory.
 pub record WantsMemory (status : Status) (written : Option (List ℕ)) (held : List ℕ) : Type 0 where
   -- the status is 2
   pub wanted : status ≡ Oom

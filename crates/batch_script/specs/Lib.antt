@@ -1,7 +1,8 @@
 -- What a script is, what a run of it is, and the text of its replies.
-pub mod Attempt
+pub mod Answer
 pub mod Device
 pub mod DeviceLaws
+pub mod Front
 pub mod Generated
 pub mod Grammar
 pub mod Headline
@@ -9,6 +10,7 @@ pub mod Kind
 pub mod Laws
 pub mod Machine
 pub mod MemoryDevice
+pub mod Program
 pub mod Reading
 pub mod Refusal
 pub mod Reply

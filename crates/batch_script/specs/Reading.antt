@@ -13,7 +13,7 @@ use Rattle.batch_script.specs.declared.parser.Reading.{Reading}
 use Rattle.batch_script.specs.declared.parser.Start.{Start}
 use Rattle.batch_script.specs.declared.parser.Start.TheVariants.{Reserve as StartsReserve, Show as StartsShow, Begin as StartsBatch}
 use Rattle.batch_script.specs.Machine.{Item, reserve, show, batch}
-use Rattle.batch_script.specs.Grammar.{Line, IsOpen, IsWritable, IsValidItem, IsValidCommand, all_lines, command_line, line_of}
+use Rattle.batch_script.specs.Grammar.{Line, IsOpen, IsWritable, IsValidItem, IsValidCommand, all_lines, command_line, line_of, lines_of}
 
 -- an item of the parser as a plain item
 abbrev pub plain_item : SourceItem → Item
@@ -39,12 +39,6 @@ listed (Two first second) = first ∷ second ∷ []
 pub record BeginsNumber (digits : List ℕ) : Type 0 where
   pub some : 0 < length digits
   pub leading : 1 < length digits → slice_index digits 0 ≢ 48
-
--- the text is these numbers, of which there is one at least, with one space between them
-pub record AreNumbers (text numbers : List ℕ) : Type 0 where
-  pub some : 0 < length numbers
-  pub writable : AllByRecursion IsWritable numbers
-  pub same : text ≡ join_with_byte 32 (map decimal numbers)
 
 -- the line is this word and these numbers
 pub record HasParts (line word numbers : List ℕ) : Type 0 where
@@ -116,3 +110,14 @@ TakesLine Had old new word numbers =
 abbrev pub RefusesLine : (Reading → List Line → Type 0) → Reading → List ℕ → List ℕ → Type 0
 RefusesLine Had old word numbers =
     (lines : List Line) (line : Line) → HasParts line word numbers → Had old lines → ¬ IsOpen (lines ++ line ∷ [])
+
+-- the input has a first line, and where the reading had taken lines, it takes this one behind them and leaves the others
+abbrev pub TakesFirstLine : Reading → Reading → List ℕ → List ℕ → Type 0
+TakesFirstLine old new input later =
+    (line : Line) × (lines_of input ≡ line ∷ lines_of later) × ((lines : List Line) → HasRead old lines → HasRead new (lines ++ line ∷ []))
+
+-- the input has a first line, and where the reading had taken lines, no script goes on with this one behind them
+abbrev pub RefusesFirstLine : Reading → List ℕ → Type 0
+RefusesFirstLine old input =
+    (line : Line) × (later : List Line) × (lines_of input ≡ line ∷ later)
+    × ((lines : List Line) → HasRead old lines → ¬ IsOpen (lines ++ line ∷ []))

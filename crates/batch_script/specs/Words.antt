@@ -2,7 +2,7 @@
 use Rattle.std.specs.Prelude.{◌≡◌, ◌≢◌, ℕ, ◌^◌, ◌<◌, ◌≤◌, List, [], ◌∷◌, map, codes}
 use Rattle.std.specs.Fmt.{decimal}
 use Rattle.wic_vec.specs.TryString.{TryString}
-use Rattle.batch_script.specs.Generated.{most_batches}
+use Rattle.batch_script.specs.declared.words.TheConstants.{MOST_BATCHES}
 use Rattle.batch_script.specs.declared.words.Wish.{Wish}
 use Rattle.batch_script.specs.declared.words.Wish.TheVariants.{Script, Generated, Usage}
 
@@ -10,7 +10,7 @@ use Rattle.batch_script.specs.declared.words.Wish.TheVariants.{Script, Generated
 pub record AreForRun (texts : List (List ℕ)) (seed count : ℕ) : Type 0 where
   pub said : texts ≡ codes "gen" ∷ decimal seed ∷ decimal count ∷ []
   pub seed_fits : seed < 2 ^ 64
-  pub within_limit : count ≤ most_batches
+  pub within_limit : count ≤ MOST_BATCHES
 
 -- no words ask for a script
 abbrev pub AsksForScript : List TryString → Type 0

@@ -1,10 +1,11 @@
 //! A caller of the program, proved from its contract alone.
 ghost use Rattle.std.specs.Prelude.{◌≡◌, ◌≢◌, ◌⊎◌, ◌≤◌, ℕ, List, [], length, Some, IfOk};
 ghost use Rattle.batch_script.specs.Grammar.{IsScriptOf};
-ghost use Rattle.batch_script.specs.Headline.{RunsWhole, WantsMemory, input_limit};
+ghost use Rattle.batch_script.specs.Headline.{RunsWhole, WantsMemory};
 ghost use Rattle.batch_script.specs.Machine.{Item};
 ghost use Rattle.batch_script.specs.RunText.{HoldsReplies};
 ghost use Rattle.batch_script.specs.declared.program.Status.{Status};
+ghost use Rattle.batch_script.specs.declared.program.TheConstants.{INPUT_LIMIT};
 
 use crate::memory_device::{MemSink, MemSource};
 use crate::program::{Status, top};
@@ -20,7 +21,7 @@ pub fn run_in_memory(
     room: usize,
 ) -> Result<(Status, MemSink), OutOfMemory>
     ensures no_read_fails { IfOk result (λ ended. ended.0 ≢ Status.ReadFault) }
-    ensures whole { (items : List Item) → IsScriptOf script.items items → length script.items ≤ input_limit
+    ensures whole { (items : List Item) → IsScriptOf script.items items → length script.items ≤ INPUT_LIMIT
         → HoldsReplies room script.items
         → IfOk result (λ ended. RunsWhole ended.0 (Some ended.1.bytes) [] items ⊎ WantsMemory ended.0 (Some ended.1.bytes) []) }
 {

@@ -1,6 +1,7 @@
 //! Makes scripts from two numbers.
 ghost use Rattle.std.specs.Prelude.{◌≡◌, ◌/◌, ◌^◌, ◌≤◌, IfOk, OnOk};
-ghost use Rattle.batch_script.specs.Generated.{command_of, draw, end_of, batch_of, next_number, number_after, generated, most_batches};
+ghost use Rattle.batch_script.specs.Generated.{command_of, draw, end_of, batch_of, next_number, number_after, generated};
+ghost use Rattle.batch_script.specs.declared.words.TheConstants.{MOST_BATCHES};
 ghost use Rattle.batch_script.specs.Reading.{plain_item, plain_items};
 
 use crate::item::{Item, Script};
@@ -80,7 +81,7 @@ impl Generator {
 ///
 /// Equal numbers make equal scripts. `OutOfMemory` says that there was no memory for the items; nothing is kept then.
 pub fn generate(alloc: Global, seed: u64, n: u64) -> Result<Script, OutOfMemory>
-    requires few { n ≤ most_batches }
+    requires few { n ≤ MOST_BATCHES }
     ensures script { IfOk result (λ script. plain_items script.items.items ≡ generated seed n) }
 {
     let mut items = TryVec::new(alloc);

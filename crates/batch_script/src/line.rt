@@ -1,9 +1,10 @@
-//! Reads a line: a word, and up to two numbers behind it.
-ghost use Rattle.std.specs.Prelude.{◌≡◌, ◌≢◌, ◌+◌, ◌-◌, ◌*◌, ◌^◌, ◌<◌, ◌≤◌, ◌∷◌, ◌++◌, ◌↔◌, ℕ, List, length, false};
-ghost use Rattle.std.specs.Prelude.{IsTrue, IfSome, IfNone, MatchOption, EachIndex, slice_index};
-ghost use Rattle.std.specs.Fmt.{decimal};
-ghost use Rattle.std.specs.Int.{IsInRange};
-ghost use Rattle.batch_script.specs.Reading.{AreNumbers, BeginsNumber, HasParts, HasNoParts, has_space, listed};
+//! Reads the first line of an input: a word and up to two numbers. Each byte is read once.
+ghost use Rattle.std.specs.Prelude.{◌≡◌, ◌≢◌, ◌<◌, ◌≤◌, ◌∷◌, ◌↔◌, ℕ, List, length, IsTrue, IfSome, IfNone, slice_index};
+ghost use Rattle.batch_script.specs.Front.{AreNumbersBefore, EndsLine, HasFault, IsCut};
+ghost use Rattle.batch_script.specs.Grammar.{line_of, lines_of};
+ghost use Rattle.batch_script.specs.Reading.{HasParts, listed};
+
+use crate::number::read_number;
 
 /// The numbers of a line.
 #[derive(Clone, Copy)]
@@ -13,78 +14,85 @@ pub(crate) enum Numbers {
     Two(u64, u64),
 }
 
-/// The word and the numbers of a line, or `None` where it is no word with up to two numbers.
-pub(crate) fn read_parts(line: &[u8]) -> Option<(&[u8], Numbers)>
-    ensures some { IfSome result (λ parts. HasParts line.now parts.0.now (listed parts.1)) }
-    ensures none { IfNone result (HasNoParts line.now) }
+/// The word and the numbers of the first line, and what follows that line; or `None` if the first line is no word with up to
+/// two numbers.
+#[inline(always)]
+pub(crate) fn read_line(input: &[u8]) -> Option<(&[u8], Numbers, &[u8])>
+    requires { 0 < length input.now }
+    ensures parts { IfSome result (λ read. HasParts (line_of read.0.now (listed read.1)) read.0.now (listed read.1)) }
+    ensures lines { IfSome result (λ read. lines_of input.now ≡ line_of read.0.now (listed read.1) ∷ lines_of read.2.now) }
+    ensures shorter { IfSome result (λ read. length read.2.now < length input.now) }
+    ensures none { IfNone result (HasFault input.now) }
 {
-    match split_at_space(line) {
-        None => Some((line, Numbers::Zero)),
-        Some((word, rest)) => Some((word, read_numbers(rest)?)),
+    let (word, rest) = split_word(input);
+    match after_space(rest) {
+        Some(text) => {
+            let (numbers, later) = read_numbers(text)?;
+            Some((word, numbers, later))
+        }
+        None => Some((word, Numbers::Zero, after_line(rest)?)),
     }
 }
 
-/// One number or two, with one space between them.
-fn read_numbers(text: &[u8]) -> Option<Numbers>
-    ensures some { IfSome result (λ numbers. AreNumbers text.now (listed numbers)) }
-    ensures none { IfNone result ((numbers : List ℕ) → length numbers ≤ 2 → ¬ AreNumbers text.now numbers) }
+/// One number or two with one space between them, up to the end of the line, and what follows the line.
+#[inline(always)]
+fn read_numbers(text: &[u8]) -> Option<(Numbers, &[u8])>
+    ensures some { IfSome result (λ read. (rest : List ℕ) × AreNumbersBefore text.now (listed read.0) rest read.1.now) }
+    ensures none { IfNone result ((numbers rest later : List ℕ) → length numbers ≤ 2
+        → ¬ AreNumbersBefore text.now numbers rest later) }
 {
-    match split_at_space(text) {
-        None => Some(Numbers::One(read_number(text)?)),
-        Some((first, second)) => Some(Numbers::Two(read_number(first)?, read_number(second)?)),
+    let (first, rest) = read_number(text)?;
+    match after_space(rest) {
+        Some(more) => {
+            let (second, end) = read_number(more)?;
+            Some((Numbers::Two(first, second), after_line(end)?))
+        }
+        None => Some((Numbers::One(first), after_line(rest)?)),
     }
 }
 
-/// What stands before the first space, and what stands behind it.
-fn split_at_space(text: &[u8]) -> Option<(&[u8], &[u8])>
-    ensures some { IfSome result (λ parts. (has_space parts.0.now ≡ false) × (text.now ≡ parts.0.now ++ 32 ∷ parts.1.now)) }
-    ensures none { IfNone result (has_space text.now ≡ false) }
+/// What follows a space at the front.
+#[inline(always)]
+fn after_space(text: &[u8]) -> Option<&[u8]>
+    ensures some { IfSome result (λ rest. text.now ≡ 32 ∷ rest.now) }
+    ensures none { IfNone result ((rest : List ℕ) → text.now ≢ 32 ∷ rest) }
 {
-    match place_of(b' ', text) {
-        Some(end) => Some((&text[..end], &text[end + 1..])),
-        None => None,
+    match text {
+        [b' ', rest @ ..] => Some(rest),
+        _ => None,
     }
 }
 
-/// The place of the first such byte.
-pub(crate) fn place_of(wanted: u8, bytes: &[u8]) -> Option<usize>
-    ensures first { MatchOption result (EachIndex bytes.now (λ k. slice_index bytes.now k ≢ wanted))
-        (λ end. (end < length bytes.now) × (slice_index bytes.now end ≡ wanted)
-        × ((k : ℕ) → k < end → slice_index bytes.now k ≢ wanted)) }
+/// What follows the end of a line at the front.
+#[inline(always)]
+fn after_line(rest: &[u8]) -> Option<&[u8]>
+    ensures some { IfSome result (λ later. EndsLine rest.now later.now) }
+    ensures none { IfNone result ((later : List ℕ) → ¬ EndsLine rest.now later) }
 {
-    bytes.iter().position(|byte| *byte == wanted)
+    match rest {
+        [] => Some(rest),
+        [b'\n', later @ ..] => Some(later),
+        _ => None,
+    }
 }
 
-/// The number that these digits write, with no sign and no leading zero.
-pub(crate) fn read_number(digits: &[u8]) -> Option<u64>
-    ensures some { IfSome result (λ number. (number < 2 ^ 64) × (digits.now ≡ decimal number)) }
-    ensures none { IfNone result ((number : ℕ) → number < 2 ^ 64 → digits.now ≢ decimal number) }
+/// What stands before the first space or line feed, and what stands from there on.
+#[inline(always)]
+fn split_word(text: &[u8]) -> (&[u8], &[u8])
+    ensures { IsCut text.now result.0.now result.1.now }
 {
-    if !begins_number(digits) {
-        return None;
+    let mut end = 0;
+    while is_in_word(text, end) {
+        end += 1;
     }
-    let mut number = 0;
-    for byte in digits {
-        number = with_digit(number, *byte)?;
-    }
-    Some(number)
+    (&text[..end], &text[end..])
 }
 
-/// Whether there is a digit, and no zero before others.
-fn begins_number(digits: &[u8]) -> bool
-    ensures { IsTrue result ↔ BeginsNumber digits.now }
+/// Whether a byte stands at this place that is neither a space nor a line feed.
+#[inline(always)]
+fn is_in_word(text: &[u8], place: usize) -> bool
+    ensures { IsTrue result
+        ↔ ((place < length text.now) × (slice_index text.now place ≢ 32) × (slice_index text.now place ≢ 10)) }
 {
-    let leading_zero = digits.len() > 1 && digits[0] == b'0';
-    !leading_zero && !digits.is_empty()
-}
-
-/// The number with one digit more behind its others.
-fn with_digit(number: u64, byte: u8) -> Option<u64>
-    ensures some { IfSome result (λ more. IsInRange 48 57 byte × (more ≡ number * 10 + (byte - 48)) × (more < 2 ^ 64)) }
-    ensures none { IfNone result (IsInRange 48 57 byte → 2 ^ 64 ≤ number * 10 + (byte - 48)) }
-{
-    if !byte.is_ascii_digit() {
-        return None;
-    }
-    number.checked_mul(10)?.checked_add((byte - b'0') as u64)
+    place < text.len() && text[place] != b' ' && text[place] != b'\n'
 }

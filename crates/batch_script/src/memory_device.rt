@@ -1,12 +1,12 @@
 //! Sources and sinks in memory, which fail at the calls that they are told.
 ghost use Rattle.std.specs.Prelude.{◌≡◌, ◌+◌, ◌-◌, ◌^◌, ◌<◌, ◌≤◌, ◌↔◌, ◌⊎◌, ◌++◌, ℕ, List, [], length, take, drop, min};
-ghost use Rattle.std.specs.Prelude.{Contains, IsTrue, IsOk, IsErr, IfOk, OnOk, OnErr, None, Some, Ok};
+ghost use Rattle.std.specs.Prelude.{⊤, Contains, IsTrue, IsOk, IsErr, IfOk, OnOk, OnErr, None, Some, Ok};
 ghost use Rattle.batch_script.specs.Device.{HasCause, TakesFirst, moves};
 ghost use Rattle.batch_script.specs.MemoryDevice.{Counted, Gave, SinkReaches, SourceReaches, next_call};
 ghost use Rattle.batch_script.specs.DeviceLaws.{counted_more, counted_none, gave_more, gave_none};
 ghost use Rattle.batch_script.specs.DeviceLaws.{sink_more, sink_none, source_more, source_none};
 
-use crate::device::{Failed, Sink, Source};
+use crate::device::{Device, Failed, Sink, Source};
 use std::alloc::Global;
 use std::marker::Model;
 use wic_base::OutOfMemory;
@@ -93,12 +93,20 @@ impl PlainSource {
     }
 }
 
-impl Source for PlainSource {
-    ghost left = { λ s. Some s };
-
+impl Device for PlainSource {
     ghost faults = { λ _. 0 };
 
+    ghost can_call = { λ _. ⊤ };
+
     ghost reaches = { Gave };
+
+    ghost stays = { gave_none };
+
+    ghost goes_on = { gave_more };
+}
+
+impl Source for PlainSource {
+    ghost left = { λ s. Some s };
 
     fn read(&mut self, buf: &mut [u8]) -> Result<usize, Failed>
         ensures never_fails { IsOk result }
@@ -112,10 +120,6 @@ impl Source for PlainSource {
         let most = buf.len();
         Ok(self.take(buf, most))
     }
-
-    ghost stays = { gave_none };
-
-    ghost goes_on = { gave_more };
 }
 
 /// Input that lies in memory, is given in pieces, and fails at the calls that it is told. Own.
@@ -162,12 +166,20 @@ impl MemSource {
     }
 }
 
-impl Source for MemSource {
-    ghost left = { λ s. Some s.left };
-
+impl Device for MemSource {
     ghost faults = { λ s. s.faults };
 
+    ghost can_call = { λ _. ⊤ };
+
     ghost reaches = { SourceReaches };
+
+    ghost stays = { source_none };
+
+    ghost goes_on = { source_more };
+}
+
+impl Source for MemSource {
+    ghost left = { λ s. Some s.left };
 
     fn read(&mut self, buf: &mut [u8]) -> Result<usize, Failed>
         ensures listed { IsErr result ↔ Contains self.old.failing (next_call self.old.calls) }
@@ -187,10 +199,6 @@ impl Source for MemSource {
         }
         Ok(self.source.take(buf, self.piece))
     }
-
-    ghost stays = { source_none };
-
-    ghost goes_on = { source_more };
 }
 
 /// Output that is kept in memory, is taken in pieces, and fails at the calls that it is told and where its room is
@@ -263,12 +271,20 @@ impl MemSink {
     }
 }
 
-impl Sink for MemSink {
-    ghost written = { λ s. Some s.bytes };
-
+impl Device for MemSink {
     ghost faults = { λ s. s.faults };
 
+    ghost can_call = { λ _. ⊤ };
+
     ghost reaches = { SinkReaches };
+
+    ghost stays = { sink_none };
+
+    ghost goes_on = { sink_more };
+}
+
+impl Sink for MemSink {
+    ghost written = { λ s. Some s.bytes };
 
     fn write(&mut self, piece: &[u8]) -> Result<usize, Failed>
         ensures fails { IsErr result
@@ -297,10 +313,6 @@ impl Sink for MemSink {
         self.bytes.extend_from_slice(&piece[..count]).unwrap();
         Ok(count)
     }
-
-    ghost stays = { sink_none };
-
-    ghost goes_on = { sink_more };
 }
 
 /// Output of which only the number of bytes is kept. It takes every byte and never fails, and doesn't tell its bytes. Own.
@@ -337,12 +349,20 @@ impl CountSink {
     }
 }
 
-impl Sink for CountSink {
-    ghost written = { λ _. None };
-
+impl Device for CountSink {
     ghost faults = { λ _. 0 };
 
+    ghost can_call = { λ _. ⊤ };
+
     ghost reaches = { Counted };
+
+    ghost stays = { counted_none };
+
+    ghost goes_on = { counted_more };
+}
+
+impl Sink for CountSink {
+    ghost written = { λ _. None };
 
     fn write(&mut self, piece: &[u8]) -> Result<usize, Failed>
         ensures takes_all { result ≡ Ok (length piece.now) }
@@ -352,8 +372,4 @@ impl Sink for CountSink {
         self.total = self.total.saturating_add(piece.len() as u64);
         Ok(piece.len())
     }
-
-    ghost stays = { counted_none };
-
-    ghost goes_on = { counted_more };
 }

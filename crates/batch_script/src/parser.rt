@@ -8,28 +8,13 @@ ghost use Rattle.batch_script.specs.Reading.{first_word, first_numbers, listed, 
 ghost use Rattle.batch_script.specs.Refusal.{IsJustified};
 
 use crate::item::{Item, Script};
-use crate::line::{Numbers, place_of, read_parts};
+use crate::line::{Numbers, read_line};
 use crate::run_error::RunError;
 use batch_core::{Batch, Command, End};
 use std::alloc::Global;
 use std::mem;
 use wic_base::OutOfMemory;
 use wic_vec::TryVec;
-
-/// The first line of an input and what follows it, or `None` where no line is left.
-fn next_line(input: &[u8]) -> Option<(&[u8], &[u8])>
-    ensures lines { MatchOption result (lines_of input.now ≡ [])
-        (λ parts. lines_of input.now ≡ parts.0.now ∷ lines_of parts.1.now) }
-    ensures shorter { IfSome result (λ parts. length parts.1.now < length input.now) }
-{
-    if input.is_empty() {
-        return None;
-    }
-    match place_of(b'\n', input) {
-        Some(end) => Some((&input[..end], &input[end + 1..])),
-        None => Some((input, &[])),
-    }
-}
 
 /// The command of this word and these numbers.
 fn command_of(word: &[u8], numbers: Numbers) -> Option<Command<u64>>
@@ -127,7 +112,7 @@ pub(crate) struct Reading {
 }
 
 impl Reading {
-    ghost use Rattle.batch_script.specs.Reading.{HasRead, IsInside, IsOutside, RefusesLine, TakesLine};
+    ghost use Rattle.batch_script.specs.Reading.{HasRead, IsInside, IsOutside, RefusesFirstLine, RefusesLine, TakesFirstLine, TakesLine};
 
     fn new(alloc: Global) -> Reading
         ensures { HasRead result [] }
@@ -139,21 +124,31 @@ impl Reading {
         }
     }
 
-    /// Goes on by one line.
-    fn take_line(&mut self, alloc: Global, line: &[u8]) -> Result<(), LineRefusal>
-        ensures ok { OnOk result ((lines : List Line) → HasRead self.old lines → HasRead self.new (lines ++ line.now ∷ [])) }
-        ensures syntax { result ≡ Err LineRefusal.Syntax → (lines : List Line) → HasRead self.old lines
-            → ¬ IsOpen (lines ++ line.now ∷ []) }
+    /// Takes the first line of an input, and returns what follows it.
+    fn take_first_line<'a>(&mut self, alloc: Global, input: &'a [u8]) -> Result<&'a [u8], LineRefusal>
+        requires some { 0 < length input.now }
+        ensures ok { IfOk result (λ later. TakesFirstLine self.old self.new input.now later.now) }
+        ensures shorter { IfOk result (λ later. length later.now < length input.now) }
+        ensures syntax { result ≡ Err LineRefusal.Syntax → RefusesFirstLine self.old input.now }
     {
-        match read_parts(line) {
+        match read_line(input) {
             None => Err(LineRefusal::Syntax),
-            Some((word, numbers)) => {
-                if self.has_begun {
-                    self.take_in_batch(alloc, word, numbers)
-                } else {
-                    self.take_outside(alloc, word, numbers)
-                }
+            Some((word, numbers, later)) => {
+                self.take_parts(alloc, word, numbers)?;
+                Ok(later)
             }
+        }
+    }
+
+    /// Goes on by a line of this word and these numbers.
+    fn take_parts(&mut self, alloc: Global, word: &[u8], numbers: Numbers) -> Result<(), LineRefusal>
+        ensures ok { OnOk result (TakesLine HasRead self.old self.new word.now (listed numbers)) }
+        ensures syntax { result ≡ Err LineRefusal.Syntax → RefusesLine HasRead self.old word.now (listed numbers) }
+    {
+        if self.has_begun {
+            self.take_in_batch(alloc, word, numbers)
+        } else {
+            self.take_outside(alloc, word, numbers)
         }
     }
 
@@ -215,14 +210,13 @@ pub fn parse(alloc: Global, input: &[u8]) -> Result<Script, RunError>
     let mut reading = Reading::new(alloc);
     let mut rest = input;
     let mut line_number = 0;
-    while let Some((line, later)) = next_line(rest) {
+    while !rest.is_empty() {
         line_number += 1;
-        match reading.take_line(alloc, line) {
-            Ok(()) => {}
+        rest = match reading.take_first_line(alloc, rest) {
+            Ok(later) => later,
             Err(LineRefusal::Syntax) => return Err(RunError::Syntax { line: line_number }),
             Err(LineRefusal::Oom) => return Err(RunError::Oom),
-        }
-        rest = later;
+        };
     }
     if reading.has_begun {
         return Err(RunError::Syntax {

@@ -2,11 +2,11 @@
 ghost use Rattle.std.specs.Prelude.{◌≡◌, ◌∷◌, ℕ, [], IfSome, IfNone};
 ghost use Rattle.batch_script.specs.Words.{AreForRun, AsksFor};
 
-use crate::line::read_number;
+use crate::number::whole_number;
 use wic_vec::{TryString, TryVec};
 
 /// The most batches that a script is generated with.
-const MOST_BATCHES: u64 = 100000;
+pub const MOST_BATCHES: u64 = 100000;
 
 /// What the words of the command line ask for.
 #[derive(Clone, Copy)]
@@ -38,8 +38,8 @@ fn numbers_of(word: &[u8], seed: &[u8], count: &[u8]) -> Option<(u64, u64)>
     if word != b"gen".as_slice() {
         return None;
     }
-    let seed = read_number(seed)?;
-    let count = read_number(count)?;
+    let seed = whole_number(seed)?;
+    let count = whole_number(count)?;
     if count > MOST_BATCHES {
         return None;
     }

@@ -2,7 +2,7 @@ use Rattle.std.proofs.Common.{◌≡◌, ◌∷◌, ◌++◌, [], ap, ◌∙◌,
 use Rattle.batch_script.specs.Generated.{batch_of, generated}
 use Rattle.batch_script.specs.Machine.{reserve}
 use Rattle.batch_script.specs.Reading.{plain_item, plain_items}
-use Rattle.batch_script.proofs.Draws.{number_after-step, made-more}
+use Rattle.batch_script.proofs.DrawFacts.{number_after-step, made-more}
 use Rattle.std.proofs.lemmas.List.{map-append}
 use Rattle.batch_script.proofs.generator.generate.Goals as goal
 

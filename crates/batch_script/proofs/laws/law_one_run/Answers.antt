@@ -1,4 +1,4 @@
-use Rattle.batch_script.proofs.RunTexts.{one_run}
+use Rattle.batch_script.proofs.RunTextFacts.{one_run}
 use Rattle.batch_script.proofs.laws.law_one_run.Goals as goal
 
 pub returns : goal.returns

@@ -1,4 +1,4 @@
-use Rattle.batch_script.proofs.PlainRuns.{plain_with_room, one_plain_run}
+use Rattle.batch_script.proofs.PlainRunFacts.{plain_with_room, one_plain_run}
 use Rattle.batch_script.proofs.laws.law_plain_run.Goals as goal
 
 pub returns : goal.returns

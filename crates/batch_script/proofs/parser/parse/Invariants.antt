@@ -3,13 +3,13 @@ use Rattle.batch_script.specs.Grammar.{lines_of}
 use Rattle.batch_script.specs.Reading.{HasRead}
 use Rattle.batch_script.proofs.parser.parse.Given as goal
 
-abbrev pub invariant-loop-line : goal.invariant-loop-line
-invariant-loop-line l = record {
+abbrev pub invariant-loop-rest : goal.invariant-loop-rest
+invariant-loop-rest l = record {
   read : HasRead l.reading (take l.line_number (lines_of l.input));
   left : drop l.line_number (lines_of l.input) ≡ lines_of l.rest;
   bytes : l.line_number + length l.rest ≤ length l.input;
   counted : l.line_number ≤ length (lines_of l.input);
 }
 
-abbrev pub decreases-loop-line : goal.decreases-loop-line
-decreases-loop-line l = length l.rest
+abbrev pub decreases-loop-rest : goal.decreases-loop-rest
+decreases-loop-rest l = length l.rest

@@ -6,7 +6,7 @@ use Rattle.batch_core.specs.Batch.{committed, aborted, refused}
 use Rattle.batch_script.specs.Kind.{kind_of_cause}
 use Rattle.batch_script.specs.Machine.{answered}
 use Rattle.batch_script.specs.Reply.{record_lines, text_of_lines}
-use Rattle.batch_script.proofs.Runs.{batch_step, refused_step, cause_text-kind, text-committed}
+use Rattle.batch_script.proofs.RunFacts.{batch_step, refused_step, cause_text-kind, text-committed}
 use Rattle.batch_script.proofs.runner.run_batch.Goals as goal
 
 pub returns-in_ok-push_records-in-Ok-Committed : goal.returns-in_ok-push_records-in-Ok-Committed

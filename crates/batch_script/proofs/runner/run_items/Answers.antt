@@ -1,6 +1,6 @@
 use Rattle.std.specs.Vec.Iter.{into_iter_items, into_iter_len}
 use Rattle.batch_script.specs.Reading.{plain_items}
-use Rattle.batch_script.proofs.Runs.{under_way-more, text_of_run}
+use Rattle.batch_script.proofs.RunFacts.{under_way-more, text_of_run}
 use Rattle.batch_script.proofs.runner.run_items.Goals as goal
 
 pub loop-item-preserved : goal.loop-item-preserved

@@ -1,6 +1,6 @@
 use Rattle.std.specs.Vec.Iter.{into_iter_items, into_iter_len}
 use Rattle.batch_script.specs.Reading.{plain_items}
-use Rattle.batch_script.proofs.Runs.{IsUnderWay}
+use Rattle.batch_script.proofs.RunFacts.{IsUnderWay}
 use Rattle.batch_script.proofs.runner.run_items.Given as goal
 
 abbrev pub invariant-loop-item : goal.invariant-loop-item

@@ -1,7 +1,7 @@
 use Rattle.std.proofs.Common.{◌≡◌, ◌*◌, ◌∷◌, ◌++◌, [], ap, ◌∙◌, arith}
 use Rattle.batch_script.specs.Generated.{command_of, draw, end_of, next_number, number_after}
 use Rattle.batch_script.specs.Machine.{batch}
-use Rattle.batch_script.proofs.Draws.{number_after-step, made-more, made_in_steps}
+use Rattle.batch_script.proofs.DrawFacts.{number_after-step, made-more, made_in_steps}
 use Rattle.batch_script.proofs.generator.Generator.batch.Goals as goal
 
 pub loop-preserved : goal.loop-preserved

@@ -1,5 +1,5 @@
 use Rattle.batch_script.specs.Reading.{listed, plain_items}
-use Rattle.batch_script.proofs.Readings.{stuck_in_batch, parts_go_on_nowhere}
+use Rattle.batch_script.proofs.ReadingFacts.{stuck_in_batch, parts_go_on_nowhere}
 use Rattle.batch_script.proofs.parser.Reading.take_in_batch.Goals as goal
 
 pub returns-in-None-clause-syntax : goal.returns-in-None-clause-syntax

@@ -1,5 +1,5 @@
 use Rattle.batch_script.specs.Reading.{listed, plain_items}
-use Rattle.batch_script.proofs.Readings.{stuck_outside, parts_start_none}
+use Rattle.batch_script.proofs.ReadingFacts.{stuck_outside, parts_start_none}
 use Rattle.batch_script.proofs.parser.Reading.take_outside.Goals as goal
 
 pub returns-in-None-clause-syntax : goal.returns-in-None-clause-syntax

@@ -1,0 +1,230 @@
+-- What a line does to what was read, and where reading stops.
+use Rattle.std.proofs.Common.{◌≡◌, ◌≢◌, ℕ, ◌+◌, ◌<◌, ◌≤◌, List, [], ◌∷◌, ◌++◌, length, take, drop, map, refl, sym, ap, ◌∙◌, subst}
+use Rattle.std.proofs.Common.{inl, inr, arith, append_assoc, length-drop, take-take, Option, Some, None}
+use Rattle.std.specs.Prelude.{codes}
+use Rattle.std.proofs.lemmas.List.{take-append-drop, append-nil, drop-drop, map-append}
+use Rattle.std.proofs.lemmas.List.Concat.{flat_map-append}
+use Rattle.std.proofs.Math.Seq.{take-add}
+use Rattle.batch_core.specs.declared.command.Command.{Command}
+use Rattle.batch_core.specs.declared.command.Command.TheVariants.{Push, Pop, Set, Alloc, Free, Put, Insert, Remove, Truncate}
+use Rattle.batch_core.specs.declared.command.End.{End}
+use Rattle.batch_core.specs.declared.command.End.TheVariants.{Commit}
+use Rattle.batch_script.specs.Machine.{Item, reserve, show, batch}
+use Rattle.batch_script.specs.Grammar.{Line, IsValidItem, IsValidCommand, word_of, numbers_of, line_of, command_line, end_line}
+use Rattle.batch_script.specs.Grammar.{printed_lines, all_lines, lines_of, IsOpen, IsScript, IsScriptOf, IsFaultLine}
+use Rattle.batch_script.specs.Reading.{AreRead, HasParts, HasNoParts, open_lines, first_word, first_numbers}
+use Rattle.batch_script.proofs.ListFacts.{AllByRecursion-append}
+use Rattle.batch_script.proofs.LineFacts.{same_line}
+use Rattle.batch_script.proofs.ScriptFacts.{command_word, end_word}
+use Rattle.batch_script.proofs.PrefixFacts.{rest-after_items, StartsItem, starts_item, GoesOn, next_line_in_batch, begun_is_no_script}
+
+all_lines-append : (xs ys : List Item) → all_lines (xs ++ ys) ≡ all_lines xs ++ all_lines ys
+all_lines-append xs ys = flat_map-append printed_lines xs ys
+
+-- an item of one line
+pub read-item : (items : List Item) (item : Item) (lines : List Line) (line : Line) → AreRead items None lines → IsValidItem item
+    → printed_lines item ≡ line ∷ [] → AreRead (items ++ item ∷ []) None (lines ++ line ∷ [])
+read-item items item lines line was valid printed = record {
+  valid_items = AllByRecursion-append IsValidItem items (item ∷ []) was.valid_items (valid, tt);
+  valid_open = tt;
+  same = ap (λ l. l ++ line ∷ []) (was.same ∙ append-nil (all_lines items))
+      ∙ ap (λ more. all_lines items ++ more) (sym (append-nil (printed_lines item) ∙ printed))
+      ∙ sym (all_lines-append items (item ∷ [])) ∙ sym (append-nil (all_lines (items ++ item ∷ [])));
+}
+
+-- a batch begins
+pub read-begin : (items : List Item) (lines : List Line) (line : Line) → AreRead items None lines → line ≡ codes "begin"
+    → AreRead items (Some []) (lines ++ line ∷ [])
+read-begin items lines line was e = record {
+  valid_items = was.valid_items;
+  valid_open = tt;
+  same = rw (was.same, e) (append_assoc (all_lines items) [] (codes "begin" ∷ []));
+}
+
+-- a command follows
+pub read-command : (items : List Item) (commands : List (Command ℕ)) (lines : List Line) (line : Line) (command : Command ℕ)
+    → AreRead items (Some commands) lines → IsValidCommand command → line ≡ command_line command
+    → AreRead items (Some (commands ++ command ∷ [])) (lines ++ line ∷ [])
+read-command items commands lines line command was valid e = record {
+  valid_items = was.valid_items;
+  valid_open = AllByRecursion-append IsValidCommand commands (command ∷ []) was.valid_open (valid, tt);
+  same = rw (was.same, e, map-append command_line commands (command ∷ []))
+      (append_assoc (all_lines items) (open_lines (Some commands)) (command_line command ∷ []));
+}
+
+-- a batch ends
+pub read-end : (items : List Item) (commands : List (Command ℕ)) (lines : List Line) (line : Line) (ending : End)
+    → AreRead items (Some commands) lines → line ≡ end_line ending
+    → AreRead (items ++ batch commands ending ∷ []) None (lines ++ line ∷ [])
+read-end items commands lines line ending was e = record {
+  valid_items = AllByRecursion-append IsValidItem items (batch commands ending ∷ []) was.valid_items (was.valid_open, tt);
+  valid_open = tt;
+  same = rw (was.same, e, all_lines-append items (batch commands ending ∷ [])) (simp (append_assoc, append-nil));
+}
+
+-- what was read begins a script
+pub IsOpen-read : (items : List Item) (begun : Option (List (Command ℕ))) (lines : List Line) → AreRead items begun lines → IsOpen lines
+IsOpen-read items None lines was = (items, [], was.valid_items, rw was.same (simp append-nil))
+IsOpen-read items (Some commands) lines was = (
+  items ++ batch commands Commit ∷ [],
+  end_line Commit ∷ [],
+  AllByRecursion-append IsValidItem items (batch commands Commit ∷ []) was.valid_items (was.valid_open, tt),
+  rw (was.same, all_lines-append items (batch commands Commit ∷ [])) (simp (append_assoc, append-nil)),
+)
+
+-- the line after these is no first line of an item
+pub stuck_outside : (items : List Item) (lines : List Line) (line : Line) → AreRead items None lines → ¬ StartsItem line
+    → IsOpen (lines ++ line ∷ []) → ⊥
+stuck_outside items lines line was never opened =
+    let apart : all_lines items ++ line ∷ opened.1 ≡ all_lines opened.0 = simp (was.same, append_assoc, append-nil) at opened.3 in
+    let more = rest-after_items items opened.0 (line ∷ opened.1) was.valid_items opened.2 apart in
+    never (starts_item line opened.1 more.0 more.2 more.1)
+
+-- in a batch only a command or its end goes on
+pub stuck_in_batch : (items : List Item) (commands : List (Command ℕ)) (lines : List Line) (line : Line)
+    → AreRead items (Some commands) lines → ¬ GoesOn line → IsOpen (lines ++ line ∷ []) → ⊥
+stuck_in_batch items commands lines line was never opened =
+    let apart : all_lines items ++ ((codes "begin" ∷ map command_line commands) ++ line ∷ opened.1) ≡ all_lines opened.0 =
+    simp (was.same, append_assoc) at opened.3 in
+    let more = rest-after_items items opened.0 ((codes "begin" ∷ map command_line commands) ++ line ∷ opened.1) was.valid_items opened.2
+    apart in
+    never (next_line_in_batch commands line opened.1 more.0 was.valid_open more.2 more.1)
+
+-- the word and the numbers of an item's first line
+first_parts : (item : Item) → IsValidItem item
+    → HasParts (line_of (first_word item) (first_numbers item)) (first_word item) (first_numbers item) × (length (first_numbers item) ≤ 2)
+first_parts (reserve number) valid = (record { is_word = refl; writable = (valid, tt); same = refl }, omega arith)
+first_parts show valid = (record { is_word = refl; writable = tt; same = refl }, omega arith)
+first_parts (batch commands ending) valid = (record { is_word = refl; writable = tt; same = refl }, omega arith)
+
+few_numbers : (command : Command ℕ) → length (numbers_of command) ≤ 2
+few_numbers (Push value) = omega arith
+few_numbers Pop = omega arith
+few_numbers (Set at value) = omega arith
+few_numbers (Alloc value) = omega arith
+few_numbers (Free id) = omega arith
+few_numbers (Put id value) = omega arith
+few_numbers (Insert number) = omega arith
+few_numbers (Remove number) = omega arith
+few_numbers (Truncate kept) = omega arith
+
+-- a line that is no word with up to two numbers is no first line of an item
+pub none_starts : (line : Line) → HasNoParts line → ¬ StartsItem line
+none_starts line never starts =
+    let parts = first_parts starts.0 starts.1 in
+    never (first_word starts.0) (first_numbers starts.0) parts.1
+    (subst (λ l. HasParts l (first_word starts.0) (first_numbers starts.0)) (sym starts.2) parts.0)
+
+-- a line that is no word with up to two numbers is no command and ends no batch
+pub none_goes_on : (line : Line) → HasNoParts line → ¬ GoesOn line
+none_goes_on line never (inl one) =
+    never (word_of one.0) (numbers_of one.0) (few_numbers one.0)
+    (record { is_word = (command_word one.0).0; writable = one.1; same = one.2 })
+none_goes_on line never (inr one) =
+    never (end_line one.0) [] (omega arith) (record { is_word = (end_word one.0).0; writable = tt; same = one.1 })
+
+-- a word and numbers that start no item
+pub parts_start_none : (line word numbers : List ℕ) → HasParts line word numbers
+    → ((item : Item) → first_numbers item ≡ numbers → first_word item ≢ word) → ¬ StartsItem line
+parts_start_none line word numbers has never starts =
+    let parts = (first_parts starts.0 starts.1).0 in
+    let same = same_line (first_word starts.0) word (first_numbers starts.0) numbers parts.is_word has.is_word parts.writable has.writable
+    (sym starts.2 ∙ has.same) in
+    never starts.0 same.1 same.0
+
+-- a word and numbers that are no command and end no batch
+pub parts_go_on_nowhere : (line word numbers : List ℕ) → HasParts line word numbers
+    → ((command : Command ℕ) → numbers_of command ≡ numbers → word_of command ≢ word)
+    → ((ending : End) → numbers ≡ [] → end_line ending ≢ word) → ¬ GoesOn line
+parts_go_on_nowhere line word numbers has never nor (inl one) =
+    let same = same_line (word_of one.0) word (numbers_of one.0) numbers (command_word one.0).0 has.is_word one.1 has.writable
+    (sym one.2 ∙ has.same) in
+    never one.0 same.1 same.0
+parts_go_on_nowhere line word numbers has never nor (inr one) =
+    let same = same_line (end_line one.0) word [] numbers (end_word one.0).0 has.is_word tt has.writable (sym one.1 ∙ has.same) in
+    nor one.0 (sym same.1) same.0
+
+-- a batch that has begun and not ended is no script
+pub begun-IsScript : (items : List Item) (commands : List (Command ℕ)) (input : List ℕ) → AreRead items (Some commands) (lines_of input)
+    → IsScript input → ⊥
+begun-IsScript items commands input was script =
+    let apart : all_lines items ++ (codes "begin" ∷ map command_line commands) ≡ all_lines script.0 = sym was.same ∙ script.1.lines in
+    let more = rest-after_items items script.0 (codes "begin" ∷ map command_line commands) was.valid_items script.1.valid apart in
+    begun_is_no_script commands more.0 was.valid_open more.1
+
+-- with all lines read and no batch begun the input is the script of the items
+pub IsScriptOf-read : (items : List Item) (input : List ℕ) → AreRead items None (lines_of input) → IsScriptOf input items
+IsScriptOf-read items input was = record { valid = was.valid_items; lines = was.same ∙ append-nil (all_lines items) }
+
+-- a front of lines that begin a script begins one too
+pub IsOpen-front : (front rest : List Line) → IsOpen (front ++ rest) → IsOpen front
+IsOpen-front front rest opened = (opened.0, rest ++ opened.1, opened.2, sym (append_assoc front rest opened.1) ∙ opened.3)
+
+-- each front of the lines of a script begins a script
+pub IsOpen-script : (input : List ℕ) (count : ℕ) → IsScript input → IsOpen (take count (lines_of input))
+IsOpen-script input count script =
+    (script.0, drop count (lines_of input), script.1.valid, take-append-drop count (lines_of input) ∙ script.1.lines)
+
+IsOpen-take : (lines : List Line) (count : ℕ) → IsOpen lines → IsOpen (take count lines)
+IsOpen-take lines count opened =
+    IsOpen-front (take count lines) (drop count lines) (subst IsOpen (sym (take-append-drop count lines)) opened)
+
+fewer_open : (lines : List Line) (count fewer : ℕ) → fewer ≤ count → IsOpen (take count lines) → IsOpen (take fewer lines)
+fewer_open lines count fewer below opened =
+    subst IsOpen (take-take fewer count lines below) (IsOpen-take (take count lines) fewer opened)
+
+-- where line comes after the first count lines, the first count + 1 lines are those and line
+pub take_next : (lines : List Line) (count : ℕ) (line : Line) (later : List Line) → drop count lines ≡ line ∷ later
+    → take (count + 1) lines ≡ take count lines ++ line ∷ []
+take_next lines count line later next = take-add count 1 lines ∙ ap (λ rest. take count lines ++ take 1 rest) next
+
+-- where line comes after the first count lines, and then later, later is what comes after the first count + 1 lines
+pub drop_next : (lines : List Line) (count : ℕ) (line : Line) (later : List Line) → drop count lines ≡ line ∷ later
+    → drop (count + 1) lines ≡ later
+drop_next lines count line later next = sym (drop-drop 1 count lines) ∙ ap (drop 1) next
+
+-- the fault is at the first line with which no script begins
+pub IsFaultLine-at : (input : List ℕ) (count : ℕ) (line : Line) (later : List Line) → IsOpen (take count (lines_of input))
+    → drop count (lines_of input) ≡ line ∷ later → ¬ IsOpen (take count (lines_of input) ++ line ∷ [])
+    → (¬ IsScript input) × IsFaultLine input (count + 1)
+IsFaultLine-at input count line later opened next stuck =
+    let lines = lines_of input in
+    let short : count < length lines = omega (arith, length-drop count lines, ap length next) in
+    let front : take (count + 1) lines ≡ take count lines ++ line ∷ [] = take_next lines count line later next in
+    let closed : ¬ IsOpen (take (count + 1) lines) = λ whole. stuck (subst IsOpen front whole) in (
+      (λ script. closed (IsOpen-script input (count + 1) script)),
+      record {
+        counted = omega arith;
+        before = λ fewer below. fewer_open lines count fewer (omega arith) opened;
+        least = inl (omega arith, closed);
+      },
+    )
+
+-- with no byte left no line is left
+pub no_lines : (rest : List ℕ) → length rest ≡ 0 → lines_of rest ≡ []
+no_lines [] none = refl
+no_lines (byte ∷ rest) none = absurd (omega arith)
+
+-- with no line left the first lines are all lines
+pub take_to_end : (lines : List Line) (count : ℕ) → drop count lines ≡ [] → take count lines ≡ lines
+take_to_end lines count next =
+    let whole = take-append-drop count lines in
+    sym (append-nil (take count lines)) ∙ (rw next at whole)
+
+-- where all lines begin a script and the input is none, the fault is behind the last line
+pub IsFaultLine-end : (input : List ℕ) (count : ℕ) → IsOpen (take count (lines_of input)) → drop count (lines_of input) ≡ []
+    → count ≤ length (lines_of input) → IsFaultLine input (count + 1)
+IsFaultLine-end input count opened next within =
+    let all : length (lines_of input) ≡ count = omega (arith, length-drop count (lines_of input), ap length next) in
+    record {
+      counted = omega arith;
+      before = λ fewer below. fewer_open (lines_of input) count fewer (omega arith) opened;
+      least = inr (omega arith);
+    }
+
+-- where a line is no word with up to two numbers no script goes on with it
+pub stuck_with_none : (items : List Item) (begun : Option (List (Command ℕ))) (lines : List Line) (line : Line)
+    → AreRead items begun lines
+    → HasNoParts line → IsOpen (lines ++ line ∷ []) → ⊥
+stuck_with_none items None lines line was never = stuck_outside items lines line was (none_starts line never)
+stuck_with_none items (Some commands) lines line was never = stuck_in_batch items commands lines line was (none_goes_on line never)

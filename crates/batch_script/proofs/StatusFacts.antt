@@ -1,0 +1,301 @@
+-- What follows from how the program came to its result.
+use Rattle.std.proofs.Common.{◌≡◌, ◌⊎◌, ◌≤◌, ◌<◌, ℕ, List, [], ◌∷◌, ◌++◌, length, map, refl, sym, ap, ◌∙◌, subst, inl, inr, arith, Option, Some}
+use Rattle.wic_vec.specs.TryString.{TryString}
+use Rattle.batch_core.specs.State.{empty_state}
+use Rattle.batch_script.specs.Answer.{ReadsAll, status_of, text_of_answer}
+use Rattle.batch_script.specs.Device.{Use, HasFaults, OfTold}
+use Rattle.batch_script.specs.Generated.{generated}
+use Rattle.batch_script.specs.Grammar.{IsScriptOf}
+use Rattle.batch_script.specs.Headline.{Premises, RunsWhole, WantsMemory}
+use Rattle.batch_script.specs.Machine.{Item, Run}
+use Rattle.batch_script.specs.Program.{AsksForSummary, SummarizesRun, batch_meaning}
+use Rattle.batch_script.specs.RunText.{IsRunText}
+use Rattle.batch_script.specs.Status.{CallsFor, Concludes, EndsAmong, Finishes, IsAmong, Meaning, Offers, RepliesTo}
+use Rattle.batch_script.specs.Summary.{summary_text}
+use Rattle.batch_script.specs.Words.{AsksForRun}
+use Rattle.batch_script.specs.declared.program.Answer.{Answer}
+use Rattle.batch_script.specs.declared.program.Status.{Status}
+use Rattle.batch_script.specs.declared.program.Status.TheVariants.{Done, Syntax, Oom, ReadFault, WriteFault, TooLong, Usage}
+use Rattle.batch_script.specs.declared.program.TheConstants.{INPUT_LIMIT}
+use Rattle.batch_script.proofs.ScriptFacts.{one_script}
+use Rattle.batch_script.proofs.WordFacts.{one_run}
+
+-- bytes and input are the same if Some bytes and Some input are
+pub some_told : (bytes input : List ℕ) → Some bytes ≡ Some input → bytes ≡ input
+some_told bytes input same = cc
+
+-- ---- any program
+
+-- words ask for one thing at most, and what is replied to is a script
+pub record IsMeaning (meaning : Meaning) : Type 0 where
+  pub reply_is_script : (input text : List ℕ) → meaning.is_reply input text → meaning.is_script input
+  pub some_for_text : (words : List TryString) (text : List ℕ) → words ≡ [] → ¬ meaning.asks_for_text words text
+  pub some_for_usage : (words : List TryString) → words ≡ [] → ¬ meaning.asks_for_usage words
+  pub text_or_usage : (words : List TryString) (text : List ℕ) → meaning.asks_for_text words text → ¬ meaning.asks_for_usage words
+
+module _ (meaning : Meaning) (sound : IsMeaning meaning) (words : List TryString) (source : Use) (text : List ℕ) where
+  -- with no words the text that goes with status 0 replies to the input
+  pub replies_of : RepliesTo meaning words source text ⊎ meaning.asks_for_text words text → words ≡ []
+      → RepliesTo meaning words source text
+  replies_of (inl replies) none = replies
+  replies_of (inr asks) none = absurd (sound.some_for_text words text none asks)
+
+  -- status 0 is no answer to words that ask for the usage
+  done_or_usage : RepliesTo meaning words source text ⊎ meaning.asks_for_text words text → ¬ meaning.asks_for_usage words
+  done_or_usage (inl replies) = sound.some_for_usage words replies.no_words
+  done_or_usage (inr asks) = sound.text_or_usage words text asks
+
+  -- which statuses are called for, by words and input
+  pub calls_among : (sink : Use) (status : Status) → CallsFor meaning words source status text
+      → EndsAmong meaning words source sink status
+  calls_among sink Done called = record {
+    script = λ input offers within is. inl refl;
+    no_script = λ input offers within none.
+        absurd (none (sound.reply_is_script input text ((replies_of called.1 offers.no_words).replies input offers.told)));
+    too_long = λ input offers beyond.
+        absurd (let within = (replies_of called.1 offers.no_words).within input offers.told in omega arith);
+    text = λ other asks. inl refl;
+    usage = λ asks. absurd (done_or_usage called.1 asks);
+    only_usage = λ is. absurd (cc);
+    read_fault = λ is. absurd (cc);
+    write_fault = λ is. absurd (cc);
+  }
+  calls_among sink Syntax called = record {
+    script = λ input offers within is. absurd (called.1.no_script input offers.told is);
+    no_script = λ input offers within none. inl refl;
+    too_long = λ input offers beyond. absurd (let within = called.1.within input offers.told in omega arith);
+    text = λ other asks. absurd (sound.some_for_text words other called.1.no_words asks);
+    usage = λ asks. absurd (sound.some_for_usage words called.1.no_words asks);
+    only_usage = λ is. absurd (cc);
+    read_fault = λ is. absurd (cc);
+    write_fault = λ is. absurd (cc);
+  }
+  calls_among sink Oom called = record {
+    script = λ input offers within is. inr (inl refl);
+    no_script = λ input offers within none. inr (inl refl);
+    too_long = λ input offers beyond. inr (inl refl);
+    text = λ other asks. inr (inl refl);
+    usage = λ asks. absurd (called.1 asks);
+    only_usage = λ is. absurd (cc);
+    read_fault = λ is. absurd (cc);
+    write_fault = λ is. absurd (cc);
+  }
+  calls_among sink ReadFault called = record {
+    script = λ input offers within is. inr (inr (inl refl));
+    no_script = λ input offers within none. inr (inr (inl refl));
+    too_long = λ input offers beyond. inr (inr (inl refl));
+    text = λ other asks. absurd (sound.some_for_text words other called.1 asks);
+    usage = λ asks. absurd (sound.some_for_usage words called.1 asks);
+    only_usage = λ is. absurd (cc);
+    read_fault = λ is. called.0;
+    write_fault = λ is. absurd (cc);
+  }
+  calls_among sink WriteFault called = absurd called
+  calls_among sink TooLong called = record {
+    script = λ input offers within is. absurd (let beyond = called.2 input offers.told in omega arith);
+    no_script = λ input offers within none. absurd (let beyond = called.2 input offers.told in omega arith);
+    too_long = λ input offers beyond. inl refl;
+    text = λ other asks. absurd (sound.some_for_text words other called.1 asks);
+    usage = λ asks. absurd (sound.some_for_usage words called.1 asks);
+    only_usage = λ is. absurd (cc);
+    read_fault = λ is. absurd (cc);
+    write_fault = λ is. absurd (cc);
+  }
+  calls_among sink Usage called = record {
+    script = λ input offers within is. absurd (sound.some_for_usage words offers.no_words called.1);
+    no_script = λ input offers within none. absurd (sound.some_for_usage words offers.no_words called.1);
+    too_long = λ input offers beyond. absurd (sound.some_for_usage words offers.no_words called.1);
+    text = λ other asks. absurd (sound.text_or_usage words other asks called.1);
+    usage = λ asks. inl refl;
+    only_usage = λ is. called.1;
+    read_fault = λ is. absurd (cc);
+    write_fault = λ is. absurd (cc);
+  }
+
+  -- which results there are after the writing
+  ends_by : (sink : Use) (writes : ℕ → Type 0) (result status : Status) → CallsFor meaning words source status text
+      → Finishes text status sink writes result → EndsAmong meaning words source sink result
+  ends_by sink writes result status called (inl wrote) =
+      subst (EndsAmong meaning words source sink) (sym wrote.0) (calls_among sink status called)
+  ends_by sink writes result status called (inr failed) = record {
+    script = λ input offers within is. inr (inr (inr (inl failed.0)));
+    no_script = λ input offers within none. inr (inr (inr (inl failed.0)));
+    too_long = λ input offers beyond. inr (inr (inr (inl failed.0)));
+    text = λ other asks. inr (inr (inl failed.0));
+    usage = λ asks. inr (inl failed.0);
+    only_usage = λ is. let bad : Usage ≡ WriteFault = sym is ∙ failed.0 in absurd (cc);
+    read_fault = λ is. let bad : ReadFault ≡ WriteFault = sym is ∙ failed.0 in absurd (cc);
+    write_fault = λ is. failed.1.rose;
+  }
+
+-- the results that a call can have, by how it came to this one
+pub ends_lem : (meaning : Meaning) → IsMeaning meaning → (words : List TryString) (source sink : Use) (writes : ℕ → Type 0) (result : Status)
+    → Concludes meaning words source sink writes result → EndsAmong meaning words source sink result
+ends_lem meaning sound words source sink writes result how =
+    ends_by meaning sound words source how.text sink writes result how.status how.called_for how.finished
+
+-- The whole text was written, which is one that the result calls for.
+pub record Wrote (meaning : Meaning) (words : List TryString) (source sink : Use) (result : Status) : Type 0 where
+  pub text : List ℕ
+  pub called_for : CallsFor meaning words source result text
+  pub gained : OfTold sink (λ held. sink.told_after ≡ Some (held ++ text))
+
+wrote_by : (meaning : Meaning) (words : List TryString) (source sink : Use) (writes : ℕ → Type 0) (result status : Status) (text : List ℕ)
+    → CallsFor meaning words source status text → Finishes text status sink writes result → ¬ HasFaults sink
+    → Wrote meaning words source sink result
+wrote_by meaning words source sink writes result status text called (inl wrote) quiet = record {
+  text = text;
+  called_for = subst (λ s. CallsFor meaning words source s text) (sym wrote.0) called;
+  gained = wrote.1.gained;
+}
+wrote_by meaning words source sink writes result status text called (inr failed) quiet = absurd (quiet failed.1.rose)
+
+-- so it is if no write failed
+pub wrote_lem : (meaning : Meaning) (words : List TryString) (source sink : Use) (writes : ℕ → Type 0) (result : Status)
+    → Concludes meaning words source sink writes result → ¬ HasFaults sink → Wrote meaning words source sink result
+wrote_lem meaning words source sink writes result how quiet =
+    wrote_by meaning words source sink writes result how.status how.text how.called_for how.finished quiet
+
+-- of these two results and two faults, quiet devices leave the two results
+pub two_left : (first result : Status) (source sink : Use) → IsAmong (first ∷ Oom ∷ ReadFault ∷ WriteFault ∷ []) result
+    → (result ≡ ReadFault → HasFaults source) → (result ≡ WriteFault → HasFaults sink) → ¬ HasFaults source → ¬ HasFaults sink
+    → (result ≡ first) ⊎ (result ≡ Oom)
+two_left first result source sink (inl is) read write quiet silent = inl is
+two_left first result source sink (inr (inl is)) read write quiet silent = inr is
+two_left first result source sink (inr (inr (inl is))) read write quiet silent = absurd (quiet (read is))
+two_left first result source sink (inr (inr (inr (inl is)))) read write quiet silent = absurd (silent (write is))
+two_left first result source sink (inr (inr (inr (inr none)))) read write quiet silent = absurd none
+
+-- the same where nothing is read
+two_left_unread : (first result : Status) (sink : Use) → IsAmong (first ∷ Oom ∷ WriteFault ∷ []) result
+    → (result ≡ WriteFault → HasFaults sink) → ¬ HasFaults sink → (result ≡ first) ⊎ (result ≡ Oom)
+two_left_unread first result sink (inl is) write silent = inl is
+two_left_unread first result sink (inr (inl is)) write silent = inr is
+two_left_unread first result sink (inr (inr (inl is))) write silent = absurd (silent (write is))
+two_left_unread first result sink (inr (inr (inr none))) write silent = absurd none
+
+-- ---- the program of batches
+
+-- words that say numbers are some
+some_words : (words : List TryString) (seed count : ℕ) → words ≡ [] → ¬ AsksForRun words seed count
+some_words words seed count none asks =
+    let said = subst (λ (given : List TryString). AsksForRun given seed count) none asks in
+    let long = ap length said.said in omega arith
+
+-- its words ask for one thing at most, and what it replies to is a script
+pub batch_sound : IsMeaning batch_meaning
+batch_sound = record {
+  reply_is_script = λ input text reply. (reply.0, reply.1);
+  some_for_text = λ words text none asks. some_words words asks.seed asks.count none asks.asks;
+  some_for_usage = λ words none usage. usage.0 none;
+  text_or_usage = λ words text asks usage. usage.1 asks.seed asks.count asks.asks;
+}
+
+-- the text of one run of the items
+runs : (result : Status) (written_after : Option (List ℕ)) (input held text : List ℕ) (items : List Item) → result ≡ Done
+    → IsRunText input text → IsScriptOf input items → written_after ≡ Some (held ++ text) → RunsWhole result written_after held items
+runs result written_after input held text items is text_of_run script gained =
+    let same = one_script text_of_run.0 items text_of_run.1.valid script.valid (sym text_of_run.1.lines ∙ script.lines) in
+    record {
+      done = is;
+      replies = text_of_run.2.0;
+      run = subst (λ (read : List Item). Run empty_state read text_of_run.2.0) same text_of_run.2.1;
+      gained = gained ∙ ap (λ bytes. Some (held ++ bytes)) text_of_run.2.2;
+    }
+
+-- the line of out of memory, whole
+wants : (words : List TryString) (source sink : Use) (result : Status) (held : List ℕ) (wrote : Wrote batch_meaning words source sink result)
+    → sink.told ≡ Some held → result ≡ Oom → WantsMemory result sink.told_after held
+wants words source sink result held wrote told is =
+    let called : CallsFor batch_meaning words source Oom wrote.text =
+    subst (λ s. CallsFor batch_meaning words source s wrote.text) is wrote.called_for in record {
+      wanted = is;
+      gained = wrote.gained held told ∙ ap (λ bytes. Some (held ++ bytes)) called.2;
+    }
+
+headline_by : (words : List TryString) (source sink : Use) (result : Status) (input held : List ℕ) (items : List Item)
+    → Wrote batch_meaning words source sink result → Premises words source sink input held items → (result ≡ Done) ⊎ (result ≡ Oom)
+    → RunsWhole result sink.told_after held items ⊎ WantsMemory result sink.told_after held
+headline_by words source sink result input held items wrote premises (inl is) =
+    let called : CallsFor batch_meaning words source Done wrote.text =
+    subst (λ s. CallsFor batch_meaning words source s wrote.text) is wrote.called_for in
+    let replies = replies_of batch_meaning batch_sound words source wrote.text called.1 premises.no_words in
+    inl (runs result sink.told_after input held wrote.text items is (replies.replies input premises.source_tells) premises.script
+    (wrote.gained held premises.sink_tells))
+headline_by words source sink result input held items wrote premises (inr is) =
+    inr (wants words source sink result held wrote premises.sink_tells is)
+
+-- the headline, by how the call came to its result
+pub headline_lem : (words : List TryString) (source sink : Use) (writes : ℕ → Type 0) (result : Status)
+    → Concludes batch_meaning words source sink writes result → (input held : List ℕ) (items : List Item)
+    → Premises words source sink input held items
+    → RunsWhole result sink.told_after held items ⊎ WantsMemory result sink.told_after held
+headline_lem words source sink writes result how input held items premises =
+    let ends = ends_lem batch_meaning batch_sound words source sink writes result how in
+    headline_by words source sink result input held items
+    (wrote_lem batch_meaning words source sink writes result how premises.sink_quiet) premises
+    (two_left Done result source sink
+    (ends.script input (record { no_words = premises.no_words; told = premises.source_tells }) premises.within_limit (items, premises.script))
+    ends.read_fault ends.write_fault premises.source_quiet premises.sink_quiet)
+
+summary_by : (words : List TryString) (source sink : Use) (result : Status) (seed count : ℕ) (held : List ℕ)
+    → Wrote batch_meaning words source sink result → AsksForRun words seed count → sink.told ≡ Some held
+    → (result ≡ Done) ⊎ (result ≡ Oom)
+    → SummarizesRun result sink.told_after held seed count ⊎ WantsMemory result sink.told_after held
+summary_by words source sink result seed count held wrote asks told (inl is) =
+    let called : CallsFor batch_meaning words source Done wrote.text =
+    subst (λ s. CallsFor batch_meaning words source s wrote.text) is wrote.called_for in
+    inl (record {
+      done = is;
+      gained = wrote.gained held told ∙ ap (λ bytes. Some (held ++ bytes)) (text_is wrote.text called.1);
+    })
+  where
+    text_is : (text : List ℕ) → RepliesTo batch_meaning words source text ⊎ AsksForSummary words text
+        → text ≡ summary_text (generated seed count)
+    text_is text (inl replies) = absurd (some_words words seed count replies.no_words asks)
+    text_is text (inr asked) =
+        let same = one_run (map (λ word. word.bytes) words) asked.seed asked.count seed count asked.asks asks in
+        asked.tells ∙ (ap (λ from. summary_text (generated from asked.count)) same.0
+        ∙ ap (λ many. summary_text (generated seed many)) same.1)
+summary_by words source sink result seed count held wrote asks told (inr is) =
+    inr (wants words source sink result held wrote told is)
+
+-- the summary, by how the call came to its result
+pub summary_lem : (words : List TryString) (source sink : Use) (writes : ℕ → Type 0) (result : Status)
+    → Concludes batch_meaning words source sink writes result → (seed count : ℕ) (held : List ℕ) → AsksForRun words seed count
+    → sink.told ≡ Some held → ¬ HasFaults sink
+    → SummarizesRun result sink.told_after held seed count ⊎ WantsMemory result sink.told_after held
+summary_lem words source sink writes result how seed count held asks told quiet =
+    let ends = ends_lem batch_meaning batch_sound words source sink writes result how in
+    let asked : AsksForSummary words (summary_text (generated seed count)) =
+    record { seed = seed; count = count; asks = asks; tells = refl } in
+    summary_by words source sink result seed count held (wrote_lem batch_meaning words source sink writes result how quiet) asks told
+    (two_left_unread Done result sink (ends.text (summary_text (generated seed count)) asked) ends.write_fault quiet)
+
+-- ---- what was read
+
+-- what holds of all that was read holds of what the source told
+pub of_read : (Fact : List ℕ → Type 0) (source : Use) (bytes : List ℕ) → ReadsAll source bytes → Fact bytes → OfTold source Fact
+of_read Fact source bytes reads holds = λ input told. subst Fact (reads.all input told) holds
+
+-- what is called for with these words, this use of the source and this answer is called for with the same ones
+pub called_at : (words others : List TryString) (source used : Use) (answer made : Answer) → words ≡ others → source ≡ used
+    → answer ≡ made → CallsFor batch_meaning others used (status_of made) (text_of_answer batch_meaning.usage made)
+    → CallsFor batch_meaning words source (status_of answer) (text_of_answer batch_meaning.usage answer)
+called_at words others source used answer made same_words same_use same_answer called =
+    subst (λ w. CallsFor batch_meaning w source (status_of answer) (text_of_answer batch_meaning.usage answer)) (sym same_words)
+    (subst (λ s. CallsFor batch_meaning others s (status_of answer) (text_of_answer batch_meaning.usage answer)) (sym same_use)
+    (subst (λ a. CallsFor batch_meaning others used (status_of a) (text_of_answer batch_meaning.usage a)) (sym same_answer) called))
+
+-- how a call came to its result, by the answer that it wrote
+pub concludes_by : (words : List TryString) (source sink : Use) (writes : ℕ → Type 0) (result status : Status) (text : List ℕ)
+    (answer : Answer) → CallsFor batch_meaning words source (status_of answer) (text_of_answer batch_meaning.usage answer)
+    → status ≡ status_of answer → text ≡ text_of_answer batch_meaning.usage answer → Finishes text status sink writes result
+    → Concludes batch_meaning words source sink writes result
+concludes_by words source sink writes result status text answer called is tells finished = record {
+  status = status;
+  text = text;
+  called_for = subst (λ s. CallsFor batch_meaning words source s text) (sym is)
+      (subst (λ t. CallsFor batch_meaning words source (status_of answer) t) (sym tells) called);
+  finished = finished;
+}

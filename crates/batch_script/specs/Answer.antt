@@ -1,0 +1,42 @@
+-- What the program has to write before it writes, and how reading ends.
+use Rattle.std.specs.Prelude.{◌≡◌, ℕ, ◌<◌, ◌≤◌, List, [], length, codes, Some}
+use Rattle.batch_script.specs.Device.{Use, HasFaults, Keeps, OfTold}
+use Rattle.batch_script.specs.Status.{line_text}
+use Rattle.batch_script.specs.declared.program.Answer.{Answer}
+use Rattle.batch_script.specs.declared.program.Answer.TheVariants as answer
+use Rattle.batch_script.specs.declared.program.ReadEnd.{ReadEnd}
+use Rattle.batch_script.specs.declared.program.ReadEnd.TheVariants as end
+use Rattle.batch_script.specs.declared.program.Status.{Status}
+use Rattle.batch_script.specs.declared.program.Status.TheVariants as status
+use Rattle.batch_script.specs.declared.program.TheConstants.{INPUT_LIMIT}
+
+-- the status of an answer
+abbrev pub status_of : Answer → Status
+status_of (answer.Done text) = status.Done
+status_of (answer.Syntax text) = status.Syntax
+status_of answer.Oom = status.Oom
+status_of answer.ReadFault = status.ReadFault
+status_of answer.TooLong = status.TooLong
+status_of answer.Usage = status.Usage
+
+-- its text, with this line for the usage
+abbrev pub text_of_answer : List ℕ → Answer → List ℕ
+text_of_answer usage (answer.Done text) = text.bytes
+text_of_answer usage (answer.Syntax text) = text.bytes
+text_of_answer usage answer.Oom = line_text (codes "error: out of memory")
+text_of_answer usage answer.ReadFault = line_text (codes "error: read fault")
+text_of_answer usage answer.TooLong = line_text (codes "error: input too long")
+text_of_answer usage answer.Usage = line_text usage
+
+-- all bytes that were left were read, within the limit, and no call failed
+pub record ReadsAll (source : Use) (bytes : List ℕ) : Type 0 where
+  pub all : OfTold source (λ input. bytes ≡ input)
+  pub ended : OfTold source (λ input. source.told_after ≡ Some [])
+  pub within : length bytes ≤ INPUT_LIMIT
+  pub kept : Keeps source
+
+-- why reading ended before the input did
+abbrev pub IsReadEnd : Use → ReadEnd → Type 0
+IsReadEnd source end.Fault = HasFaults source
+IsReadEnd source end.TooLong = Keeps source × OfTold source (λ input. INPUT_LIMIT < length input)
+IsReadEnd source end.Oom = Keeps source
