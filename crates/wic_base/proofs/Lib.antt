@@ -1,0 +1,2 @@
+-- Lemmas that several crates share.
+pub mod Along
