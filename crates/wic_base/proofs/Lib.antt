@@ -1,2 +1,4 @@
 -- Lemmas that several crates share.
 pub mod Along
+pub mod RangeFacts
+pub mod SetFacts
