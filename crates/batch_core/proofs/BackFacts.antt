@@ -7,10 +7,10 @@ use Rattle.std.proofs.lemmas.List.{append-nil, map-append, reverse-append, take-
 use Rattle.std.specs.FinMap.{get, insert, remove, len}
 use Rattle.std.specs.FinSet.{contains, insert as with_member, remove as without_member}
 use Rattle.wic_slab.specs.Order.{next_id, take_next, give_back, BelongsTo}
-use Rattle.wic_slab.proofs.LiveLemmas.{remove-insert as take_put, insert-remove as put_taken, none_from_not_some, live_value}
-use Rattle.wic_slab.proofs.LiveLemmas.{get-insert_same, len-insert_new}
-use Rattle.wic_slab.proofs.LiveLemmas.{len-remove_live, len_positive_from_live}
-use Rattle.wic_slab.proofs.OrderLemmas.{next_id_not_live, give_back-take_next, next_id-give_back, take_next-give_back}
+use Rattle.wic_base.proofs.MapFacts.{remove-insert as take_put, insert-remove as put_taken, none_from_not_some, value_at_key}
+use Rattle.wic_base.proofs.MapFacts.{get-insert_same, len-insert_new}
+use Rattle.wic_base.proofs.MapFacts.{len-remove_key, len_positive_from_key}
+use Rattle.wic_slab.proofs.OrderFacts.{next_id_not_live, give_back-take_next, next_id-give_back, take_next-give_back}
 use Rattle.batch_core.specs.State.{Contents, IsSound}
 use Rattle.batch_core.specs.Command.{unless, made_of, without_last, last_value, cause_of, effect_of, records_of}
 use Rattle.batch_core.specs.Back.{Capacities, Grows, IsWithin, undo_record, undo_all, back, CanUndo, CanGoBack}
@@ -21,8 +21,13 @@ use Rattle.batch_core.specs.declared.command.Command.TheVariants.{Push, Pop, Set
 use Rattle.batch_core.specs.declared.record.Record.{Record}
 use Rattle.batch_core.specs.declared.record.Record.TheVariants.{Pushed, Popped, Replaced, Allocated, Freed, Put as Overwritten}
 use Rattle.batch_core.specs.declared.record.Record.TheVariants.{Inserted, Removed, Cut, Truncated}
+<<<<<<< HEAD
 use Rattle.wic_slab.proofs.LiveLemmas.{insert_back}
 use Rattle.wic_base.proofs.SetFacts.{remove-insert, insert_present, insert-remove, remove_absent}
+=======
+use Rattle.wic_base.proofs.MapFacts.{insert_back}
+use Rattle.wic_bitset.proofs.SetFacts.{remove-insert, insert_present, insert-remove, remove_absent}
+>>>>>>> e05b984e1216460e90c0914dc86621b5cb713316
 use Rattle.batch_core.proofs.ListFacts.{without_last-push, last_value-push, pushed, set_back, found_below}
 
 -- where the test gives no cause, it holds
@@ -109,10 +114,10 @@ module _ {X : Type 0} where
       ∙ ap (λ l. record c { list = l }) (set_back c.list at value found.0 found.1)
   undoing_goes_back c (Alloc value) sound none = undo_alloc c value sound
   undoing_goes_back c (Free id) sound none =
-      let found = live_value c.live id (admitted _ _ none) in
+      let found = value_at_key c.live id (admitted _ _ none) in
       undo_free c id found.0 found.1
   undoing_goes_back c (Put id value) sound none =
-      let found = live_value c.live id (admitted _ _ none) in
+      let found = value_at_key c.live id (admitted _ _ none) in
       ap (λ o. undo_all (made_of o (Overwritten id)) (record c { live = insert c.live id value })) found.1
       ∙ ap (λ m. record c { live = m }) (insert_back c.live id value found.0 found.1)
   undoing_goes_back c (Insert number) sound none =
@@ -200,13 +205,13 @@ module _ {X : Type 0} where
   can_step w c (Alloc value) room sound none = (tt, ap is_some (get-insert_same c.live (next_id c.order) value))
   can_step w c (Free id) room sound none =
       let live = admitted _ _ none in
-      let found = live_value c.live id live in
+      let found = value_at_key c.live id live in
       let less : len (remove c.live id) < w.table =
-      omega (arith, len-remove_live c.live id live, len_positive_from_live c.live id live, room.table) in
+      omega (arith, len-remove_key c.live id live, len_positive_from_key c.live id live, room.table) in
       subst (λ o. CanGoBack w (made_of o (Freed id)) (record c { live = remove c.live id; order = give_back c.order id })) (sym found.1)
       (tt, less)
   can_step w c (Put id value) room sound none =
-      let found = live_value c.live id (admitted _ _ none) in
+      let found = value_at_key c.live id (admitted _ _ none) in
       subst (λ o. CanGoBack w (made_of o (Overwritten id)) (record c { live = insert c.live id value })) (sym found.1)
       (tt, ap is_some (get-insert_same c.live id value))
   can_step w c (Insert number) room sound none = (tt, tt)

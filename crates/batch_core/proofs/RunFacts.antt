@@ -5,7 +5,7 @@ use Rattle.std.specs.Prelude.{IfNone, slice_get}
 use Rattle.std.specs.Option.{option_map}
 use Rattle.std.proofs.Math.Seq.{take-append_seam}
 use Rattle.std.specs.FinMap.{get}
-use Rattle.wic_slab.proofs.LiveLemmas.{len-insert_again, len-remove_live}
+use Rattle.wic_base.proofs.MapFacts.{len-insert_again, len-remove_key}
 use Rattle.batch_core.specs.State.{Contents, IsSound}
 use Rattle.batch_core.specs.Command.{made_of, last_value, cause_of, effect_of, records_of}
 use Rattle.batch_core.specs.Back.{Grows, IsWithin, undo_all}
@@ -114,7 +114,7 @@ module _ {X : Type 0} where
   has_room s (Free id) count ready within none stays few room = record {
     list = within.list;
     set = within.set;
-    table = omega (arith, len-remove_live s.contents.live id (admitted _ _ none), within.table);
+    table = omega (arith, len-remove_key s.contents.live id (admitted _ _ none), within.table);
     records = one_record s (Free id) count refl few room;
   }
   has_room s (Put id value) count ready within none stays few room = record {

@@ -8,7 +8,7 @@ use Rattle.std.specs.Ordering.{nat_cmp}
 use Rattle.std.specs.FinMap.{FinMap, get, insert, remove, get-empty}
 use Rattle.std.proofs.lemmas.Bool.{cases_eq}
 use Rattle.std.proofs.lemmas.Bool.Decides.{nat_tests}
-use Rattle.wic_slab.proofs.LiveLemmas.{get-insert_same, get-insert_other, get-remove_same, get-remove_other}
+use Rattle.wic_base.proofs.MapFacts.{get-insert_same, get-insert_other, get-remove_same, get-remove_other}
 use Rattle.wic_slab.specs.Order.{Order, next_id}
 use Rattle.gen_slab.specs.Handle.{Handle}
 use Rattle.gen_slab.specs.GenSlab.{GenState, IsCounted, last_count, next_handle, value_in, value_of, with_next, without, rewritten}

@@ -13,14 +13,14 @@ use Rattle.wic_slab.specs.declared.slab.Entry.TheVariants.{Vacant, Occupied}
 use Rattle.wic_slab.specs.Order.{Order, max_capacity, from_zero, next_id, take_from, take_next, give_to, give_back, is_vacant, BelongsTo}
 use Rattle.wic_slab.specs.Slab.{Slab, IsSlab, with_value}
 use Rattle.wic_slab.specs.Entry.{vacant_places, link_of, live_of, chain, order_of, Links, IsSound}
-use Rattle.wic_slab.proofs.LiveLemmas.{len-insert_new, len-insert_again, len-remove_live, len_positive_from_live}
-use Rattle.wic_slab.proofs.LiveLemmas.{contains_key-insert_again, same_map_from_get}
-use Rattle.wic_slab.proofs.OrderLemmas.{nat_eq_same, nat_eq_other}
-use Rattle.wic_slab.proofs.OrderLemmas.{next_id_not_live, live_below, live_not_vacant}
-use Rattle.wic_slab.proofs.OrderLemmas.{IsOrder-take_next, IsOrder-give_back, BelongsTo-take_next, BelongsTo-give_back, taken_not_vacant}
-use Rattle.wic_slab.proofs.OrderLemmas.{taken_below_fresh, fresh-take_next, total-take_next, total-give_back, fresh-give_back}
-use Rattle.wic_slab.proofs.OrderLemmas.{fresh-give_back_le, IsOrder-from_zero}
-use Rattle.wic_slab.proofs.EntryLemmas.{get-live_of, live_of-occupied, live_of-vacant, live_of-push, occupied_at}
+use Rattle.wic_base.proofs.MapFacts.{len-insert_new, len-insert_again, len-remove_key, len_positive_from_key}
+use Rattle.wic_base.proofs.MapFacts.{contains_key-insert_again, same_map_from_get}
+use Rattle.wic_slab.proofs.OrderFacts.{nat_eq_same, nat_eq_other}
+use Rattle.wic_slab.proofs.OrderFacts.{next_id_not_live, live_below, live_not_vacant}
+use Rattle.wic_slab.proofs.OrderFacts.{IsOrder-take_next, IsOrder-give_back, BelongsTo-take_next, BelongsTo-give_back, taken_not_vacant}
+use Rattle.wic_slab.proofs.OrderFacts.{taken_below_fresh, fresh-take_next, total-take_next, total-give_back, fresh-give_back}
+use Rattle.wic_slab.proofs.OrderFacts.{fresh-give_back_le, IsOrder-from_zero}
+use Rattle.wic_slab.proofs.EntryFacts.{get-live_of, live_of-occupied, live_of-vacant, live_of-push, occupied_at}
 
 not_any_numbers : (k first count : ℕ) → k < first → list_any (nat_eq k) (range_with_len first count) ≡ false
 not_any_numbers k first zero below = refl
@@ -240,12 +240,12 @@ module _ {X : Type 0} where
       slice_get-get_or _ id (Vacant next) (omega arith) ∙ ap Some (get_or-set_same es id (Vacant next) (Vacant next) within) in
       let linked : Links (set es id (Vacant next)) id (id ∷ vacant_places o (length es)) =
       (refl, next, written, Links-set es id (Vacant next) next _ off sound.linked) in
-      let some : 0 < count = omega (arith, sound.counted, len_positive_from_live (live_of es) id is_live) in
+      let some : 0 < count = omega (arith, sound.counted, len_positive_from_key (live_of es) id is_live) in
       record {
         ordered = IsOrder-give_back o id sound.ordered below apart;
         belongs = rw live (BelongsTo-give_back o (live_of es) id sound.belongs);
         linked = rw (long, places_given o.vacant o.fresh (length es) id within) linked;
-        counted = rw live (ap (λ n. n - 1) sound.counted ∙ sym (len-remove_live (live_of es) id is_live));
+        counted = rw live (ap (λ n. n - 1) sound.counted ∙ sym (len-remove_key (live_of es) id is_live));
         total = total-give_back o count id some sound.total;
         within = omega (arith, sound.within, fresh-give_back_le o id below);
         at_most = omega (arith, sound.at_most);

@@ -7,7 +7,7 @@ use Rattle.std.specs.List.{AllByRecursion, IsDistinct, list_any}
 use Rattle.std.specs.FinMap.{FinMap, insert, remove, contains_key}
 use Rattle.wic_slab.specs.Order.{Order, max_capacity, from_zero, next_id, take_from, take_next, give_to, give_back, last_or, is_vacant}
 use Rattle.wic_slab.specs.Order.{IsOrder, BelongsTo}
-use Rattle.wic_slab.proofs.LiveLemmas.{get-insert_same, get-insert_other, get-remove_same, get-remove_other}
+use Rattle.wic_base.proofs.MapFacts.{get-insert_same, get-insert_other, get-remove_same, get-remove_other}
 
 -- nat_eq holds of a number and itself
 pub nat_eq_same : (k : ℕ) → nat_eq k k ≡ true

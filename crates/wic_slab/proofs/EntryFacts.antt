@@ -11,22 +11,8 @@ use Rattle.std.specs.FinMap.Entries.{below_all}
 use Rattle.wic_slab.specs.declared.slab.Entry.{Entry}
 use Rattle.wic_slab.specs.declared.slab.Entry.TheVariants.{Vacant, Occupied}
 use Rattle.wic_slab.specs.Entry.{value_of, pairs_from, live_of}
-use Rattle.wic_slab.proofs.LiveLemmas.{eq_by_cmp_same, eq_by_cmp_other, same_map_from_get}
-use Rattle.wic_slab.proofs.LiveLemmas.{get-insert_same, get-insert_other, get-remove_same, get-remove_other}
-
--- b is true where T holds of it
-pub equals_true_from_T : (b : Bool) → T b → b ≡ true
-equals_true_from_T true p = refl
-equals_true_from_T false p = absurd p
-
--- T holds of a && b where it holds of a and of b
-pub T-and_from_both : (a b : Bool) → T a → T b → T (a && b)
-T-and_from_both true b p q = q
-T-and_from_both false b p q = p
-
--- nat_cmp of a and b is less where a is below b
-pub is_lt-nat_cmp_from_below : (a b : ℕ) → a < b → T (is_lt (nat_cmp a b))
-is_lt-nat_cmp_from_below a b below = grind (arith, nat_tests)
+use Rattle.wic_base.proofs.MapFacts.{eq_by_cmp_same, eq_by_cmp_other, same_map_from_get, T-and_from_both, is_lt-nat_cmp_from_below}
+use Rattle.wic_base.proofs.MapFacts.{get-insert_same, get-insert_other, get-remove_same, get-remove_other}
 
 module _ {X : Type 0} where
   below_pairs : (bound place : ℕ) (es : List (Entry X)) → bound < place → T (below_all nat_cmp bound (pairs_from place es))

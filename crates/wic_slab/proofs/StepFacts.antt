@@ -3,8 +3,8 @@ use Rattle.std.specs.FinMap.{insert, remove}
 use Rattle.std.proofs.Common.{◌≡◌, ℕ, ap, ◌∙◌}
 use Rattle.wic_slab.specs.Order.{next_id, take_next, give_back, IsOrder, BelongsTo}
 use Rattle.wic_slab.specs.Slab.{Slab, IsLive, IsSlab, Holds, GivesBack}
-use Rattle.wic_slab.proofs.LiveLemmas.{get-insert_same, live_once_inserted, one_more_inserted, one_less_removed}
-use Rattle.wic_slab.proofs.OrderLemmas.{next_id_not_live, next_id-give_back}
+use Rattle.wic_base.proofs.MapFacts.{get-insert_same, key_once_inserted, one_more_inserted, one_less_removed}
+use Rattle.wic_slab.proofs.OrderFacts.{next_id_not_live, next_id-give_back}
 
 module _ {T : Type 0} (old new : Slab T) where
   -- a slab whose order went on and whose next id is live holds the value
@@ -15,7 +15,7 @@ module _ {T : Type 0} (old new : Slab T) where
     order = order;
     was_vacant = rw is (next_id_not_live _ _ belongs);
     live = live;
-    now_live = live_once_inserted _ _ _ id value live is;
+    now_live = key_once_inserted _ _ _ id value live is;
     found = rw (live, is) (get-insert_same old.live (next_id old.order) value);
     one_more = one_more_inserted _ _ _ value live (next_id_not_live _ _ belongs);
     was_ordered = ordered;
