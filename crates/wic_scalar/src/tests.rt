@@ -1,7 +1,7 @@
 //! The worked examples, and each call over every set of `u16` against a plain list of bits.
 ghost use Rattle.std.specs.Prelude.{◌<◌, ◌≤◌};
 
-use crate::callers::{ends_are_least_and_greatest, take_least, taken_in_range, walked_count};
+use crate::callers::{starts_at_the_least, take_least, taken_in_range, walked_count};
 use crate::{ScalarBitSet, ScalarBitSetStorage};
 use std::alloc::{AllocError, Global};
 use std::process::Abort;
@@ -88,7 +88,7 @@ fn a_walk_rises_and_gives_one_from_the_back(rt: HostRuntime) -> Result<(), Fail>
     assert_eq!(rt; walk.len(), 3);
     assert_eq!(rt; walk.size_hint(), (3, Some(3)));
     assert_eq!(rt; walked_count(set), 4);
-    assert!(rt; ends_are_least_and_greatest(set));
+    assert!(rt; starts_at_the_least(set));
     Ok(())
 }
 
