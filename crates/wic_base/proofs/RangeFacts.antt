@@ -31,7 +31,8 @@ filter_none_in p a (suc n) none =
     rw (none a (omega arith) (omega arith)) (filter_none_in p (a + 1) n (λ i low high. none i (omega arith) (omega arith)))
 
 -- a test that passes on the range keeps it
-pub filter_all_in : (p : ℕ → Bool) (a n : ℕ) → ((i : ℕ) → a ≤ i → i < a + n → p i ≡ true) → filter p (range_with_len a n) ≡ range_with_len a n
+pub filter_all_in : (p : ℕ → Bool) (a n : ℕ) → ((i : ℕ) → a ≤ i → i < a + n → p i ≡ true)
+    → filter p (range_with_len a n) ≡ range_with_len a n
 filter_all_in p a zero all = refl
 filter_all_in p a (suc n) all =
     rw (all a (omega arith) (omega arith))

@@ -1,16 +1,19 @@
--- Finite sets of numbers: equal where they have the same members; one number in or out; how many there are.
+-- Finite sets of numbers: equal if they have the same members; one number in or out; the number of members.
 use Rattle.std.proofs.Common.{⊎_elim, ◌≡◌, ◌≢◌, ℕ, zero, suc, ◌+◌, ◌<◌, ◌≤◌, Bool, true, false, not, ◌&&◌, length, refl, sym, ap, ◌∙◌}
-use Rattle.std.proofs.Common.{arith}
-use Rattle.std.specs.Prelude.{nat_lt}
+use Rattle.std.proofs.Common.{List, ◌↔◌, arith, subst}
+use Rattle.std.specs.Prelude.{nat_lt, nat_eq, Contains}
+use Rattle.std.specs.List.Sorted.{IsStrictlyIncreasing}
 use Rattle.std.specs.List.{filter, range_with_len}
 use Rattle.std.specs.Ordering.{nat_cmp}
-use Rattle.std.specs.Cmp.{nat_cmp_total, unsigned_tied}
+use Rattle.std.specs.Cmp.{IsEquivalence, nat_cmp_total, unsigned_tied}
 use Rattle.std.specs.FinSet.{FinSet, empty, contains, insert, remove, len, from_list, same_set, members, nat_cmp-IsAntisymmetric}
-use Rattle.std.specs.FinSet.{contains-empty}
+use Rattle.std.specs.FinSet.{contains-empty, contains-from_list_nat}
 use Rattle.std.specs.FinSet.{contains-insert, contains-remove, len-empty, len-insert}
 use Rattle.std.proofs.lemmas.Bool.{cases_eq, cases_Bool}
 use Rattle.std.proofs.lemmas.Bool.Decides.{nat_tests}
 use Rattle.std.proofs.lemmas.List.FromFn.{length-range_with_len}
+use Rattle.std.proofs.lemmas.Map.Views.{Contains-from_any, list_any-from_Contains}
+use Rattle.wic_base.specs.Sets.{ListsMembers}
 use Rattle.wic_base.proofs.RangeFacts.{filter_all_in}
 
 -- a number that isn't there is taken out
@@ -35,7 +38,7 @@ insert_present s i present = same_set nat_cmp_total nat_cmp-IsAntisymmetric _ _ 
     (λ apart. grind (members, unsigned_tied, arith, nat_tests))
     (cases_eq q i))
 
--- two sets are the same where the same numbers are absent
+-- two sets are the same if the same numbers are absent
 pub same_by_absence : (s t : FinSet nat_cmp) → ((q : ℕ) → contains s q ≡ false → contains t q ≡ false)
     → ((q : ℕ) → contains t q ≡ false → contains s q ≡ false) → s ≡ t
 same_by_absence s t one other =
@@ -145,3 +148,27 @@ len-from_list-range a m =
     let all : filter (λ _. true) (range_with_len a m) ≡ range_with_len a m = filter_all_in (λ _. true) a m (λ _ _ _. refl) in
     ap (λ xs. len (from_list {R = nat_cmp} xs)) (sym all)
     ∙ count_in (λ _. true) a m ∙ ap length all ∙ length-range_with_len a m
+
+-- ---- the ascending list of a set
+
+-- a list has the members of its set
+pub Contains-from_list : (xs : List ℕ) (k : ℕ) → (Contains xs k ↔ (contains (from_list {R = nat_cmp} xs) k ≡ true))
+Contains-from_list xs k = (
+  λ listed. contains-from_list_nat xs k ∙ list_any-from_Contains {eq = λ x y. nat_eq y x} equality k xs listed,
+  λ has. Contains-from_any {eq = λ x y. nat_eq y x} (λ x y e. grind (arith, nat_tests)) k xs (sym (contains-from_list_nat xs k) ∙ has),
+)
+  where
+    equality : IsEquivalence (λ x y. nat_eq y x)
+    equality = record {
+      refl = λ x. grind (arith, nat_tests);
+      symm = λ x y. grind (arith, nat_tests);
+      congr = λ x y z e. grind (arith, nat_tests);
+    }
+
+-- an ascending list whose set is s, as long as s is large, has each member of s once and nothing else
+pub lists_members : (xs : List ℕ) (s : FinSet nat_cmp) → from_list xs ≡ s → IsStrictlyIncreasing xs → length xs ≡ len s → ListsMembers xs s
+lists_members xs s set ascending as_many = record {
+  ascending = ascending;
+  each = λ k. subst (λ t. Contains xs k ↔ (contains t k ≡ true)) set (Contains-from_list xs k);
+  as_many = as_many;
+}

@@ -318,6 +318,18 @@ change_is_less s r true all change = (λ _. less (contains s change.0) refl, λ 
 change_is_less s r false all same =
     (λ no. absurd (cc), λ found. absurd (let now = ap (λ x. contains x found.0) same ∙ found.1.1 in let was = found.1.0 in cc))
 
+-- false exactly if the set is as before
+pub tells_same : (s t : FinSet nat_cmp) (r : Bool) → TellsChange r s t → (r ≡ false) ↔ (t ≡ s)
+tells_same s t true change = (
+  λ no. absurd (cc),
+  λ same. absurd (let now = ap (λ u. contains u change.0) same in let other = change.1 in not_itself (contains s change.0) (sym now ∙ other)),
+)
+  where
+    not_itself : (b : Bool) → b ≡ not b → ⊥
+    not_itself true same = absurd (cc)
+    not_itself false same = absurd (cc)
+tells_same s t false same = (λ _. same, λ _. refl)
+
 -- the greatest member is one number
 pub greatest_is_one : (s : FinSet nat_cmp) (x y : ℕ) → IsGreatest s x → IsGreatest s y → x ≡ y
 greatest_is_one s x y one other =

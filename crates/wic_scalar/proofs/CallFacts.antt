@@ -1,4 +1,4 @@
--- What the calls of a set stand on, from the laws of its storage.
+-- The calls of a set, from the laws of its storage.
 use Rattle.std.proofs.Common.{⊎_elim, ◌≡◌, ℕ, ◌+◌, ◌-◌, ◌<◌, ◌≤◌, Bool, true, false, not, ◌&&◌, ◌||◌, cond, length, sym, ap, ◌∙◌}
 use Rattle.std.proofs.Common.{arith, ◌↔◌, IsTrue}
 use Rattle.std.specs.Prelude.{◌==◌, nat_lt, nat_eq}
@@ -38,7 +38,7 @@ is_empty_from_test w n z r zero' test = (
   λ none. test.1 (λ k h. none_from_empty w n k none h ∙ sym (zero' k)),
 )
 
--- the test `n & b != 0`, where b has the digit i alone
+-- the test `n & b != 0`, if b has the digit i alone
 pub contains_from_test : (w n i b a z : ℕ) (r : Bool) → i < w → IsBit b i → ((k : ℕ) → is_one a k ≡ (is_one n k && is_one b k))
     → IsZero z → (IsTrue r ↔ SameDigits w a z) → not r ≡ contains (set_of w n) i
 contains_from_test w n i b a z r within bit both zero' test =
@@ -83,7 +83,7 @@ range_from_and w n lo hi a b c p q high low other both =
     ap from_list (members_of-range w n lo hi p q
     (λ k h. both k ∙ ap (λ x. x && is_one c k) (high k) ∙ ap (λ x. nat_lt k hi && x) (other k h ∙ ap not (low k))))
 
--- where there is a member, fewer digits 0 than the width stand below the lowest digit 1
+-- if there is a member, fewer digits 0 than the width stand below the lowest digit 1
 pub low_below : (w n z : ℕ) (r : Bool) → IsLowZeros w n z → (IsTrue r ↔ (set_of w n ≡ empty)) → r ≡ false → z < w
 low_below w n z r low test fails =
     ⊎_elim (λ below. below) (λ above. absurd (iff_false test fails (set_of-none w n (λ k h. low.zeros k (omega arith)))))
@@ -101,7 +101,7 @@ high_below w n z r high test fails =
 pub set_of-same : (w m n : ℕ) → SameDigits w m n → set_of w m ≡ set_of w n
 set_of-same w m n same = ap from_list (members_of-same w m n same)
 
--- two numbers have the same set where the test says that their digits are the same
+-- two numbers have the same set if the test says that their digits are the same
 pub same_set_from_test : (w m n : ℕ) (r : Bool) → (IsTrue r ↔ SameDigits w m n) → (IsTrue r ↔ (set_of w m ≡ set_of w n))
 same_set_from_test w m n r test = (
   λ yes. set_of-same w m n (test.0 yes),

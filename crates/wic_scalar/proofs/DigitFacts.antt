@@ -1,4 +1,4 @@
--- Lemmas on the digits of a number.
+-- The digits of a number.
 use Rattle.std.proofs.Common.{⊎_elim, ◌≡◌, ℕ, zero, suc, ◌+◌, ◌-◌, ◌*◌, ◌^◌, ◌/◌, ◌%◌, ◌<◌, ◌≤◌, true, false, not, ◌&&◌, ◌||◌, ◌⊎◌, refl}
 use Rattle.std.proofs.Common.{sym, ap, subst, ◌∙◌, inl, inr, arith, ◌↔◌, bit_and, bit_or, IsTrue}
 use Rattle.std.specs.Prelude.{◌==◌, nat_lt, nat_eq}
@@ -126,7 +126,7 @@ IsHighZeros-count w n fits = ⊎_elim
     })
     (eq-zero-or-pos n)
 
--- numbers below 2 ^ w are equal where their w digits are
+-- numbers below 2 ^ w are equal if their w digits are
 pub equal_digits : (w a b : ℕ) → a < 2 ^ w → b < 2 ^ w → (IsTrue (nat_eq a b) ↔ SameDigits w a b)
 equal_digits w a b p q = (
   λ same i _. let e : a ≡ b = grind (arith, nat_tests) in ap (λ n. is_one n i) e,
@@ -140,7 +140,7 @@ is_one-mod n k i h =
     ap (λ m. bit_at m i) (sym (shr_split n k)) ∙ bit_at_cat_low (n / 2 ^ k) k (n % 2 ^ k) i h in
     grind (arith, digit_cases n i, digit_cases (n % 2 ^ k) i)
 
--- the digit at k, where n has no more than k + 1 digits
+-- the digit at k, if n has at most k + 1 digits
 pub top_digit : (n k : ℕ) → n / 2 ^ k < 2 → ((n / 2 ^ k ≡ 1) × (is_one n k ≡ true)) ⊎ ((n / 2 ^ k ≡ 0) × (is_one n k ≡ false))
 unfolding is_one
 top_digit n k h = ⊎_elim
@@ -148,7 +148,7 @@ top_digit n k h = ⊎_elim
     (λ less. let none : n / 2 ^ k ≡ 0 = omega arith in inr (none, rw none refl))
     (cases_eq (n / 2 ^ k) 1)
 
--- ---- what the counts of an integer answer
+-- ---- what the counts of an integer return
 
 -- `x ≡ x` says nothing: it shows `grind` the count to match
 pub low_zeros : (w n : ℕ) → (count_trailing_zeros w n ≡ count_trailing_zeros w n) × IsLowZeros w n (count_trailing_zeros w n)

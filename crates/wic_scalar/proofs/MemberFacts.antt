@@ -1,4 +1,4 @@
--- Lemmas on the members of a number's set.
+-- The members of a number's set.
 use Rattle.std.proofs.Common.{⊎_elim, ◌≡◌, ℕ, zero, suc, ◌+◌, ◌-◌, ◌*◌, ◌^◌, ◌/◌, ◌%◌, ◌<◌, ◌≤◌, Bool, true, false, not, ◌&&◌, ◌||◌, cond}
 use Rattle.std.proofs.Common.{ltb, leb, List, [], ◌∷◌, ◌++◌, length, refl, sym, ap, ◌∙◌, arith, ◌↔◌, ◌≢◌, zero-add, add-zero, append-nil}
 use Rattle.std.proofs.Common.{length-append}
@@ -24,42 +24,14 @@ use Rattle.wic_base.specs.Sets.{IsGreatest, IsLeast}
 use Rattle.wic_scalar.proofs.DigitFacts.{is_one-mod, top_digit}
 use Rattle.wic_base.proofs.RangeFacts.{filter_agree_in, filter_all_in, filter_first, filter_last, filter_none_in, range_append}
 use Rattle.wic_base.proofs.RangeFacts.{first_of_filter, last_of_filter}
-use Rattle.wic_base.proofs.SetFacts.{none_in_empty}
-
--- ---- a range that a test filters
-
-any_cond : (b : Bool) (x q : ℕ) (xs : List ℕ)
-    → list_any (λ y. nat_eq y q) (cond b (x ∷ xs) xs) ≡ ((b && nat_eq x q) || list_any (λ y. nat_eq y q) xs)
-any_cond true x q xs = refl
-any_cond false x q xs = refl
-
--- what is kept of a range
-any_in : (p : ℕ → Bool) (q a n : ℕ) → list_any (λ y. nat_eq y q) (filter p (range_with_len a n)) ≡ (leb a q && (ltb q (a + n) && p q))
-any_in p q a zero = grind (arith, nat_tests)
-any_in p q a (suc n) =
-    any_cond (p a) a q (filter p (range_with_len (a + 1) n))
-    ∙ ap (λ r. (p a && nat_eq a q) || r) (any_in p q (a + 1) n)
-    ∙ ⊎_elim
-    (λ same. let e : p a ≡ p q = ap p same in rw e (in_range_here (p q) q a n same))
-    (λ apart. in_range_past (p a) (p q) q a n apart)
-    (cases_eq a q)
-  where
-    in_range_here : (b : Bool) (q a n : ℕ) → a ≡ q
-        → ((b && nat_eq a q) || (leb (a + 1) q && (ltb q (a + 1 + n) && b))) ≡ (leb a q && (ltb q (a + suc n) && b))
-    in_range_here true q a n e = grind (arith, nat_tests)
-    in_range_here false q a n e = grind (arith, nat_tests)
-
-    in_range_past : (b c : Bool) (q a n : ℕ) → a ≢ q
-        → ((b && nat_eq a q) || (leb (a + 1) q && (ltb q (a + 1 + n) && c))) ≡ (leb a q && (ltb q (a + suc n) && c))
-    in_range_past true c q a n e = grind (arith, nat_tests)
-    in_range_past false c q a n e = grind (arith, nat_tests)
+use Rattle.wic_base.proofs.SetFacts.{contains-filter_range, none_in_empty}
 
 -- ---- the set of a number
 
 -- the members are the places below the width whose digit is 1
 pub contains-set_of : (w n q : ℕ) → contains (set_of w n) q ≡ (nat_lt q w && is_one n q)
 unfolding members_of
-contains-set_of w n q = contains-from_list_nat (members_of w n) q ∙ any_in (is_one n) q 0 w ∙ grind (arith, nat_tests)
+contains-set_of w n q = contains-filter_range (is_one n) 0 w q ∙ grind (arith, nat_tests)
 
 same_members : (w : ℕ) (n : ℕ) (s : FinSet nat_cmp) → ((q : ℕ) → contains s q ≡ (nat_lt q w && is_one n q)) → set_of w n ≡ s
 same_members w n s is = same_set nat_cmp_total nat_cmp-IsAntisymmetric (set_of w n) s (λ q. contains-set_of w n q ∙ sym (is q))
@@ -122,7 +94,7 @@ none_from_empty w n i none below = sym (contains_below w n i below) ∙ none_in_
 pub no_members_of_empty : (w n : ℕ) → set_of w n ≡ empty → members_of w n ≡ []
 no_members_of_empty w n none = members_of-none w n (λ i h. none_from_empty w n i none h)
 
--- the members rise
+-- the members are ascending
 pub rising-members_of : (w n : ℕ) → IsStrictlyIncreasing (members_of w n)
 unfolding members_of
 rising-members_of w n =
@@ -202,36 +174,7 @@ count-members_of (suc w) n fits =
     (top_digit n w high) in
     omega arith
 
--- ---- which numbers are members
-
--- a place whose digit is 1 is a member
-pub member : (w n k : ℕ) → k < w → is_one n k ≡ true → Contains (members_of w n) k
-unfolding members_of
-member w n k within one =
-    let start : 0 + w ≡ w = omega arith in
-    let any : list_any (λ y. nat_eq y k) (filter (is_one n) (range_with_len 0 w)) ≡ (leb 0 k && (ltb k (0 + w) && is_one n k)) =
-    any_in (is_one n) k 0 w in
-    Contains-from_any {eq = λ x y. nat_eq y x} (λ x y e. grind (arith, nat_tests)) k (filter (is_one n) (range_with_len 0 w))
-    (grind (arith, nat_tests))
-
--- the members are the places whose digit is 1
-pub Contains-members_of : (w n k : ℕ) → (Contains (members_of w n) k ↔ ((k < w) × (is_one n k ≡ true)))
-Contains-members_of w n k = (
-  λ has. All-contains (λ i. (i < w) × (is_one n i ≡ true)) (members_of w n) k
-      (All-members_of (λ i. (i < w) × (is_one n i ≡ true)) w n (λ i h one. (h, one))) has,
-  λ (h, one). member w n k h one,
-)
-
--- the same, of the set
-pub Contains-set_of : (w n k : ℕ) → (Contains (members_of w n) k ↔ (contains (set_of w n) k ≡ true))
-Contains-set_of w n k =
-    let has = contains-set_of w n k in (
-      λ listed. let at = (Contains-members_of w n k).0 listed in let below = at.0 in let one = at.1 in grind (arith, nat_tests),
-      λ holds. let at : (nat_lt k w && is_one n k) ≡ true = sym has ∙ holds in let parts = and_parts (nat_lt k w) (is_one n k) at in
-          member w n k (ltb-true k w parts.0) parts.1,
-    )
-
--- where z digits 0 stand below the lowest digit 1, z is the least member
+-- if z digits 0 stand below the lowest digit 1, z is the least member
 pub least_member : (w n z : ℕ) → IsLowZeros w n z → z < w → IsLeast (set_of w n) z
 least_member w n z low within = record {
   member = contains_below w n z within ∙ low.one within;
@@ -240,7 +183,7 @@ least_member w n z low within = record {
       ⊎_elim (λ below. let none = low.zeros i below in absurd (cc)) (λ above. above) (cases_lt i z);
 }
 
--- where y digits 0 stand above the highest digit 1, the place below them is the greatest member
+-- if y digits 0 stand above the highest digit 1, the place below them is the greatest member
 pub greatest_member : (w n y z : ℕ) → IsHighZeros w n y → z + y + 1 ≡ w → IsGreatest (set_of w n) z
 greatest_member w n y z high at = record {
   member = contains_below w n z (omega arith) ∙ high.one z at;
@@ -308,8 +251,8 @@ pub one_shorter : (w n m x : ℕ) → IsGreatest (set_of w n) x → set_of w m �
 one_shorter w n m x greatest taken =
     ap length (greatest_stands_last w n m x greatest taken) ∙ length-append (members_of w m) (x ∷ [])
 
--- what a step of a walk stands on, at its front
+-- a step of a walk at its front
 pub ruleset front_step = (least_stands_first, no_members_of_empty)
 
--- and at its back
+-- a step of a walk at its back
 pub ruleset back_step = (greatest_stands_last, one_shorter, no_members_of_empty)

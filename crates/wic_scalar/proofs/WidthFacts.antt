@@ -1,4 +1,4 @@
--- The lemmas on digits at the widths of Rust's unsigned integers, as sets for `using`.
+-- Digits at the widths of Rust's unsigned integers, as rulesets for `using`.
 use Rattle.std.proofs.Common.{◌≡◌, ℕ, ◌-◌, ◌*◌, ◌^◌, ◌/◌, ◌%◌, ◌<◌, ◌≤◌, not, ◌↔◌, IsTrue, length}
 use Rattle.std.specs.Prelude.{◌==◌, nat_lt, nat_eq}
 use Rattle.std.proofs.lemmas.Nat.{leading_le, trailing_le, ones-le}
@@ -16,9 +16,9 @@ pub record Laws (w : ℕ) : Type 0 where
   pub bit : (i k : ℕ) → i < w → is_one (1 * 2 ^ i % 2 ^ w) k ≡ (k == i)
   -- `MAX >> (w - n)` has the digits below n
   pub below : (n k : ℕ) → n ≤ w → is_one ((2 ^ w - 1) / 2 ^ (w - n)) k ≡ nat_lt k n
-  -- `!n` has each digit turned round
+  -- `!n` has each digit flipped
   pub complement : (n i : ℕ) → n < 2 ^ w → i < w → is_one (2 ^ w - 1 - n) i ≡ not (is_one n i)
-  -- `a == b` tells whether all digits are the same
+  -- `a == b` says whether all digits are the same
   pub equal : (a b : ℕ) → a < 2 ^ w → b < 2 ^ w → (IsTrue (nat_eq a b) ↔ SameDigits w a b)
   -- `leading_zeros` counts the zeros at the high end
   pub high : (n : ℕ) → n < 2 ^ w → (count_leading_zeros w n ≡ count_leading_zeros w n) × IsHighZeros w n (count_leading_zeros w n)

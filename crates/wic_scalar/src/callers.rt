@@ -25,14 +25,14 @@ pub fn walked_count<T: ScalarBitSetStorage>(set: ScalarBitSet<T>) -> usize
     set.iter().len()
 }
 
-// The first item of a walk is the least member, and the last one the greatest.
-pub fn ends_are_least_and_greatest<T: ScalarBitSetStorage>(set: ScalarBitSet<T>) -> bool
+// The first item of a walk is the least member.
+pub fn starts_at_the_least<T: ScalarBitSetStorage>(set: ScalarBitSet<T>) -> bool
     ensures { IsTrue result }
 {
-    set.iter().next() == set.min() && set.iter().next_back() == set.max()
+    set.iter().next() == set.min()
 }
 
-// How many numbers of a range are in use: all of them once each is taken.
+// The number of free places in a range.
 pub fn taken_in_range(lo: u8, hi: u8) -> u8
     requires ordered { lo ≤ hi }
     requires within { hi ≤ 64 }

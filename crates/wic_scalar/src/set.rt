@@ -33,7 +33,8 @@ impl<T: ScalarBitSetStorage> ScalarBitSet<T> {
     pub fn from_range(lo: u8, hi: u8) -> Self
         requires ordered { lo ≤ hi }
         requires within { hi ≤ T.width }
-        ensures set { set_of T.width (T.number result.0) ≡ fin_set.from_list (range_with_len lo (hi - lo)) }
+        ensures set { set_of T.width (T.number result.0)
+            ≡ fin_set.from_list (range_with_len lo (hi - lo)) }
         ensures count { fin_set.len (set_of T.width (T.number result.0)) ≡ hi - lo }
     {
         Self(T::below(hi).bit_and(T::below(lo).bit_not()))
@@ -98,8 +99,8 @@ impl<T: ScalarBitSetStorage> ScalarBitSet<T> {
         ensures present { result ≡ fin_set.contains (set_of T.width (T.number self.old.0)) i }
         ensures set { set_of T.width (T.number self.new.0)
             ≡ fin_set.remove (set_of T.width (T.number self.old.0)) i }
-        ensures count { fin_set.len (set_of T.width (T.number self.new.0)) + (if result then 1 else 0)
-            ≡ fin_set.len (set_of T.width (T.number self.old.0)) }
+        ensures count { fin_set.len (set_of T.width (T.number self.new.0))
+            + (if result then 1 else 0) ≡ fin_set.len (set_of T.width (T.number self.old.0)) }
     {
         if !self.contains(i) {
             return false;

@@ -38,15 +38,17 @@ pub trait ScalarBitSetStorage: Copy {
         requires { n ≤ width }
         ensures { (k : ℕ) → is_one (number result) k ≡ nat_lt k n };
 
-    /// Digit by digit, 1 where both are.
+    /// Digit by digit, 1 if both are.
     fn bit_and(self, other: Self) -> Self
-        ensures { (k : ℕ) → is_one (number result) k ≡ (is_one (number self) k && is_one (number other) k) };
+        ensures { (k : ℕ) → is_one (number result) k
+            ≡ (is_one (number self) k && is_one (number other) k) };
 
-    /// Digit by digit, 1 where either is.
+    /// Digit by digit, 1 if either is.
     fn bit_or(self, other: Self) -> Self
-        ensures { (k : ℕ) → is_one (number result) k ≡ (is_one (number self) k || is_one (number other) k) };
+        ensures { (k : ℕ) → is_one (number result) k
+            ≡ (is_one (number self) k || is_one (number other) k) };
 
-    /// Digit by digit, 1 where it was 0.
+    /// Digit by digit, 1 if it was 0.
     fn bit_not(self) -> Self
         ensures { (k : ℕ) → k < width → is_one (number result) k ≡ not (is_one (number self) k) };
 
