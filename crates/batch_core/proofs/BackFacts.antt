@@ -1,5 +1,5 @@
 -- Records undone, part after part, and those of one command.
-use Rattle.std.proofs.Common.{◌≡◌, ℕ, ◌+◌, ◌-◌, ◌<◌, ◌≤◌, Bool, true, false, List, [], ◌∷◌, ◌++◌, map, reverse, length, take, drop, Some}
+use Rattle.std.proofs.Common.{◌≡◌, ℕ, zero, suc, ◌+◌, ◌-◌, ◌<◌, ◌≤◌, Bool, true, false, List, [], ◌∷◌, ◌++◌, map, reverse, length, take, drop, Some}
 use Rattle.std.proofs.Common.{None, refl, sym, ap, subst, ◌∙◌, arith, append_assoc, length-append, length-set, length-drop, is_some}
 use Rattle.std.specs.Prelude.{slice_set, nat_lt, not}
 use Rattle.std.proofs.lemmas.Bool.Decides.{nat_tests}
@@ -14,7 +14,7 @@ use Rattle.wic_slab.proofs.OrderFacts.{next_id_not_live, give_back-take_next, ne
 use Rattle.batch_core.specs.State.{Contents, IsSound}
 use Rattle.batch_core.specs.Command.{unless, made_of, without_last, last_value, cause_of, effect_of, records_of}
 use Rattle.batch_core.specs.Back.{Capacities, Grows, IsWithin, undo_record, undo_all, back, CanUndo, CanGoBack}
-use Rattle.batch_core.specs.Laws.{UndoingGoesBack}
+use Rattle.batch_core.specs.Laws.{UndoingGoesBack, GoingBackInTwo}
 use Rattle.batch_core.specs.declared.command.Cause.{Cause}
 use Rattle.batch_core.specs.declared.command.Command.{Command}
 use Rattle.batch_core.specs.declared.command.Command.TheVariants.{Push, Pop, Set, Alloc, Free, Put, Insert, Remove, Truncate}
@@ -251,3 +251,18 @@ module _ {X : Type 0} where
       ∙ ap (λ l. undo_all l after) (drop-append-le mark rs added early)
       ∙ undo_all-append (drop mark rs) added after
       ∙ ap (undo_all (drop mark rs)) (ap (undo_all added) effect ∙ undoing_goes_back c command sound none)
+
+  in_two : (early late : ℕ) (rs : List (Record X)) (c : Contents X) → early ≤ late
+      → undo_all (drop early (take late rs)) (undo_all (drop late rs) c) ≡ undo_all (drop early rs) c
+  in_two zero zero [] c order = refl
+  in_two zero (suc late) [] c order = refl
+  in_two (suc early) zero [] c order = refl
+  in_two (suc early) (suc late) [] c order = refl
+  in_two zero zero (x ∷ rs) c order = refl
+  in_two zero (suc late) (x ∷ rs) c order = ap (undo_record x) (in_two zero late rs c (omega arith))
+  in_two (suc early) zero (x ∷ rs) c order = absurd (omega arith)
+  in_two (suc early) (suc late) (x ∷ rs) c order = in_two early late rs c (omega arith)
+
+  -- going back to a later mark and then to an earlier one is going back to the earlier one at once
+  pub going_back_in_two : GoingBackInTwo X
+  going_back_in_two c rs early late order = (in_two early late rs c order, grind (arith, take-take))

@@ -10,12 +10,13 @@ use Rattle.batch_core.proofs.workspace.Workspace.step.Goals as goal
 pub invariant_of-self : goal.invariant_of-self
 invariant_of-self g c =
     let kept = c.in-Err.ensures.err in
-    ready_kept c.self.inside.store c.step.new.self kept.contents kept.records c.step.ensures.room c.step.ensures.grows c.self.invariant
+    ready_kept c.self.inside.store c.perform.new.self kept.contents kept.records c.perform.ensures.room c.perform.ensures.grows
+    c.self.invariant
 
 pub invariant_of-self-2 : goal.invariant_of-self-2
 invariant_of-self-2 g c =
-    ready_done c.self.inside.store c.step.new.self c.args.command c.in_default.ensures.ok c.in_default.ensures.admitted
-    c.mark.ensures.within c.mark.ensures.sound c.step.ensures.room c.step.ensures.grows c.self.invariant
+    ready_done c.self.inside.store c.perform.new.self c.args.command c.in_default.ensures.ok ?
+    c.mark.ensures.within c.mark.ensures.sound c.perform.ensures.room c.perform.ensures.grows c.self.invariant
 
 pub returns-clause-back : goal.returns-clause-back
 returns-clause-back g c =
