@@ -22,7 +22,7 @@ use Rattle.batch_core.specs.declared.record.Record.{Record}
 use Rattle.batch_core.specs.declared.record.Record.TheVariants.{Pushed, Popped, Replaced, Allocated, Freed, Put as Overwritten}
 use Rattle.batch_core.specs.declared.record.Record.TheVariants.{Inserted, Removed, Cut, Truncated}
 use Rattle.wic_base.proofs.MapFacts.{insert_back}
-use Rattle.wic_bitset.proofs.SetFacts.{remove-insert, insert_present, insert-remove, remove_absent}
+use Rattle.wic_base.proofs.SetFacts.{remove-insert, insert_present, insert-remove, remove_absent}
 use Rattle.batch_core.proofs.ListFacts.{without_last-push, last_value-push, pushed, set_back, found_below}
 
 -- where the test gives no cause, it holds

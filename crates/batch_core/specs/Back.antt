@@ -3,7 +3,7 @@ use Rattle.std.specs.Prelude.{⊤, ◌≡◌, ℕ, ◌<◌, ◌≤◌, true, fal
 use Rattle.std.specs.FinMap.{insert, remove, contains_key, len}
 use Rattle.std.specs.FinSet.{insert as with_member, remove as without_member}
 use Rattle.wic_slab.specs.Order.{next_id, take_next, give_back}
-use Rattle.wic_bitset.specs.Compound.{AllBelow}
+use Rattle.wic_base.specs.Sets.{AllBelow}
 use Rattle.batch_core.specs.State.{Contents, max_member}
 use Rattle.batch_core.specs.Command.{without_last}
 use Rattle.batch_core.specs.declared.record.Record.{Record}

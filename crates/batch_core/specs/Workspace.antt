@@ -7,7 +7,7 @@ use Rattle.std.specs.FinSet.{FinSet, code as set_code}
 use Rattle.batch_core.specs.State.{Contents}
 use Rattle.batch_core.specs.Command.{cause_of, effect_of, records_of}
 use Rattle.batch_core.specs.Back.{Capacities, CanGoBack}
-use Rattle.wic_bitset.specs.Compound.{AllBelow}
+use Rattle.wic_base.specs.Sets.{AllBelow}
 use Rattle.batch_core.specs.Room.{Passes}
 use Rattle.batch_core.specs.declared.command.Cause.{Cause}
 use Rattle.batch_core.specs.declared.command.Cause.TheVariants.{Oom}

@@ -6,7 +6,8 @@ ghost use Rattle.wic_slab.specs.Order.{max_capacity};
 ghost use Rattle.batch_core.specs.Back.{Grows, IsWithin, CanUndo, CanGoBack, undo_record, back};
 ghost use Rattle.batch_core.specs.State.{no_contents, IsSound};
 ghost use Rattle.batch_core.specs.Command.{cause_of, effect_of, unless};
-ghost use Rattle.wic_bitset.specs.Compound.{AllBelow, capacity_of};
+ghost use Rattle.wic_base.specs.Sets.{AllBelow};
+ghost use Rattle.wic_bitset.specs.Compound.{capacity_of};
 ghost use Rattle.batch_core.specs.Same.{HaveSameContents};
 ghost use Rattle.batch_core.specs.Workspace.{IsDone, IsKept, HasRoom};
 
@@ -39,7 +40,8 @@ impl<T: Drop> Model for Store<T> {
     ghost use Rattle.std.specs.Ordering.{nat_cmp};
     ghost use Rattle.std.specs.FinMap.{code};
     ghost use Rattle.std.specs.FinSet.{code as set_code};
-    ghost use Rattle.wic_bitset.specs.Compound.{AllBelow, capacity_of};
+    ghost use Rattle.wic_base.specs.Sets.{AllBelow};
+    ghost use Rattle.wic_bitset.specs.Compound.{capacity_of};
     ghost use Rattle.batch_core.specs.Workspace.{Workspace as Held};
 
     ghost Value = { Held T };

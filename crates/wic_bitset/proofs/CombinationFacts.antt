@@ -15,19 +15,19 @@ use Rattle.std.proofs.lemmas.List.{map-set}
 use Rattle.std.proofs.lemmas.Nat.{div_below, div-mul-add, mod-mul-add, mod_below}
 use Rattle.wic_scalar.specs.Digits.{is_one}
 use Rattle.wic_scalar.specs.Scalar.{set_of}
-use Rattle.wic_scalar.proofs.MemberLemmas.{contains_below, none_from_empty, same_from_sets}
-use Rattle.wic_scalar.proofs.SetLemmas.{set_of-none, set_of-same}
+use Rattle.wic_scalar.proofs.MemberFacts.{contains_below, none_from_empty, same_from_sets}
+use Rattle.wic_scalar.proofs.CallFacts.{set_of-none, set_of-same}
 use Rattle.wic_bitset.specs.Combination.{combined, TellsChange, CombinesWord, CombinesBelow, CombinesToNone, LeavesFrom}
 use Rattle.wic_bitset.specs.Combination.{MarksBelow}
-use Rattle.wic_bitset.specs.Compound.{HasMore}
-use Rattle.wic_scalar.specs.Extremes.{IsGreatest}
+use Rattle.wic_base.specs.Sets.{HasMore}
+use Rattle.wic_base.specs.Sets.{IsGreatest}
 use Rattle.wic_bitset.specs.Summary.{Summarizes}
 use Rattle.wic_bitset.specs.Words.{Words, EndsBefore, IsWordOf, IsWordEmpty, set_of_words}
 use Rattle.wic_bitset.specs.declared.combination.Combination.{Combination}
 use Rattle.wic_bitset.specs.declared.combination.Combination.TheVariants.{Union, Intersection, Difference}
 use Rattle.wic_bitset.proofs.DivisionFacts.{div_mono}
-use Rattle.wic_scalar.proofs.SetFacts.{there_after_insert, same_after_insert, gone_after_remove, same_after_remove, empty_of_none}
-use Rattle.wic_scalar.proofs.SetFacts.{none_in_empty}
+use Rattle.wic_base.proofs.SetFacts.{there_after_insert, same_after_insert, gone_after_remove, same_after_remove, empty_of_none}
+use Rattle.wic_base.proofs.SetFacts.{none_in_empty}
 use Rattle.wic_bitset.proofs.WordFacts.{here_now, elsewhere, below_length, in_word, by_digit}
 
 -- two sets with the same members are one

@@ -8,11 +8,11 @@ use Rattle.std.specs.FinSet.{FinSet, empty, contains, insert, remove}
 use Rattle.std.proofs.lemmas.Bool.{cases_eq, cases_lt, false_from_ne_true}
 use Rattle.std.proofs.lemmas.Bool.Decides.{nat_tests}
 use Rattle.wic_bitset.specs.Greatest.{IsMax}
-use Rattle.wic_scalar.specs.Extremes.{IsGreatest}
+use Rattle.wic_base.specs.Sets.{IsGreatest}
 use Rattle.wic_bitset.specs.Words.{EndsBefore, IsGreatestOfWord, IsWordEmpty}
 use Rattle.wic_bitset.proofs.DivisionFacts.{div_mono}
-use Rattle.wic_scalar.proofs.SetFacts.{empty_of_none, none_in_empty, remove_absent, there_after_insert, same_after_insert}
-use Rattle.wic_scalar.proofs.SetFacts.{same_after_remove, was_before_remove}
+use Rattle.wic_base.proofs.SetFacts.{empty_of_none, none_in_empty, remove_absent, there_after_insert, same_after_insert}
+use Rattle.wic_base.proofs.SetFacts.{same_after_remove, was_before_remove}
 
 -- there is a greatest member, or the set is empty
 pub max-none : (s : FinSet nat_cmp) (r : Option ℕ) → IsMax s r → IsNone r ↔ (s ≡ empty)

@@ -13,7 +13,7 @@ use Rattle.std.proofs.lemmas.Bool.{cases_eq, false_from_ne_true}
 use Rattle.std.proofs.lemmas.Bool.Decides.{nat_tests}
 use Rattle.wic_bitset.specs.Rising.{members_between, rising, greatest_of}
 use Rattle.wic_bitset.proofs.BetweenFacts.{between-none, between-split, from_list-between, IsStrictlyIncreasing-between, All-between}
-use Rattle.wic_scalar.proofs.SetFacts.{count_in, at_most_in}
+use Rattle.wic_base.proofs.SetFacts.{count_in, at_most_in}
 
 le-greatest_of : (xs : List ℕ) (q : ℕ) → list_any (eq_by_cmp nat_cmp q) xs ≡ true → q ≤ greatest_of xs
 le-greatest_of [] q has = absurd (cc)

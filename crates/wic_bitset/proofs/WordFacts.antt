@@ -12,13 +12,13 @@ use Rattle.std.proofs.lemmas.Bool.Decides.{nat_tests}
 use Rattle.std.proofs.lemmas.List.{length-map, map-append, get_or_at, get_or_append_left, get_or-set_same, get_or-set_other, map-set}
 use Rattle.std.proofs.lemmas.Nat.{div_below, mod_below, le-div, div-mul-add, mod-mul-add, div-add-mod'}
 use Rattle.wic_scalar.specs.Digits.{is_one}
-use Rattle.wic_scalar.specs.Extremes.{IsGreatest}
+use Rattle.wic_base.specs.Sets.{IsGreatest}
 use Rattle.wic_scalar.specs.Scalar.{set_of}
-use Rattle.wic_scalar.proofs.DigitLemmas.{is_one-zero}
-use Rattle.wic_scalar.proofs.MemberLemmas.{contains_below, none_from_empty}
-use Rattle.wic_scalar.proofs.SetLemmas.{set_of-none}
-use Rattle.wic_scalar.proofs.SetFacts.{contains-filter_range, empty_of_none, there_after_insert, same_after_insert, gone_after_remove}
-use Rattle.wic_scalar.proofs.SetFacts.{none_in_empty, same_after_remove}
+use Rattle.wic_scalar.proofs.DigitFacts.{is_one-zero}
+use Rattle.wic_scalar.proofs.MemberFacts.{contains_below, none_from_empty}
+use Rattle.wic_scalar.proofs.CallFacts.{set_of-none}
+use Rattle.wic_base.proofs.SetFacts.{contains-filter_range, empty_of_none, there_after_insert, same_after_insert, gone_after_remove}
+use Rattle.wic_base.proofs.SetFacts.{none_in_empty, same_after_remove}
 use Rattle.wic_bitset.specs.Words.{has, set_of_words, AreFirstWords, EndsBefore, IsGreatestOfWord, IsWordOf, IsWordEmpty}
 
 -- ---- the compound set

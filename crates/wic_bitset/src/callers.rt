@@ -3,10 +3,10 @@ ghost use Rattle.std.specs.Prelude.{◌≡◌, ◌+◌, ◌<◌, ◌≤◌};
 ghost use Rattle.std.specs.FinSet as fin_set;
 ghost use Rattle.wic_bitset.specs.Compound.{capacity_of};
 
-use crate::{CompoundBitSet, Steps};
+use crate::CompoundBitSet;
 use std::alloc::Global;
 use std::sync::ledger::Ledger;
-use wic_base::OutOfMemory;
+use wic_base::{OutOfMemory, Steps};
 use wic_scalar::ScalarBitSetStorage;
 use wic_vec::TryVec;
 

@@ -58,7 +58,6 @@ mod iter;
 mod iter_scalars;
 pub mod laws;
 mod set;
-mod steps;
 mod store;
 mod store_iter;
 #[cfg(test)]
@@ -69,4 +68,3 @@ pub use iter::Iter;
 pub use iter_scalars::IterScalars;
 pub use laws::law_growth;
 pub use set::CompoundBitSet;
-pub use steps::Steps;

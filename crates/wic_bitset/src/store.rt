@@ -9,13 +9,12 @@ ghost use Rattle.wic_bitset.specs.Rising.{members_between, word_members};
 ghost use Rattle.wic_bitset.specs.Words.{most_words, greatest_start, AreFirstWords, EndsBefore, IsMaxOfWord, IsWordEmpty, IsWordOf};
 
 use crate::combination::Combination;
-use crate::steps::Steps;
 use crate::store_iter::StoreIter;
 use crate::word_iter::WordIter;
 use std::alloc::Global;
 use std::marker::Model;
 use std::sync::ledger::Ledger;
-use wic_base::OutOfMemory;
+use wic_base::{OutOfMemory, Steps};
 use wic_scalar::{ScalarBitSet, ScalarBitSetStorage};
 use wic_vec::TryVec;
 

@@ -2,14 +2,14 @@
 ghost use Rattle.std.specs.Prelude.{◌≡◌, ◌<◌};
 
 use crate::callers::{emptied, far_apart, give_way, leave_for_a_while};
-use crate::{CompoundBitSet, Steps};
+use crate::CompoundBitSet;
 use std::alloc::Global;
 use std::hash::{DefaultHasher, Hash, Hasher};
 use std::marker::Brand;
 use std::process::Abort;
 use std::sync::ledger::{Blank, Ledger};
 use std::test::Fail;
-use wic_base::OutOfMemory;
+use wic_base::{OutOfMemory, Steps};
 use wic_scalar::ScalarBitSetStorage;
 use wic_vec::TryVec;
 

@@ -2,8 +2,9 @@
 ghost use Rattle.std.specs.Prelude.{◌≡◌, ℕ, ◌/◌, ◌<◌, ◌≤◌, ◌↔◌, true, IsTrue, IsOk, OnOk, OnErr, IfOk};
 ghost use Rattle.std.specs.FinSet as fin_set;
 ghost use Rattle.wic_bitset.specs.Combination.{combined, LeavesFrom, TellsChange};
-ghost use Rattle.wic_bitset.specs.Compound.{capacity_of, AllBelow, HasFrom, HasMore};
-ghost use Rattle.wic_scalar.specs.Extremes.{IsGreatest};
+ghost use Rattle.wic_base.specs.Sets.{AllBelow, HasFrom, HasMore};
+ghost use Rattle.wic_bitset.specs.Compound.{capacity_of};
+ghost use Rattle.wic_base.specs.Sets.{IsGreatest};
 ghost use Rattle.wic_bitset.specs.Growth.{count_after};
 
 use super::{CompoundBitSet, greatest_within};

@@ -1,7 +1,7 @@
 use Rattle.std.proofs.Common.{◌≡◌, ◌*◌, ◌<◌, Result, Ok, Err, true, sym, ap, subst, ◌∙◌}
 use Rattle.std.specs.Prelude.{IsOk, OnOk}
 use Rattle.std.specs.FinSet.{contains, insert}
-use Rattle.wic_scalar.proofs.SetFacts.{insert-remove}
+use Rattle.wic_base.proofs.SetFacts.{insert-remove}
 use Rattle.wic_bitset.specs.Compound.{Compound}
 use Rattle.wic_bitset.proofs.callers.leave_for_a_while.Goals as goal
 

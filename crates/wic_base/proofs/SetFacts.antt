@@ -10,6 +10,8 @@ use Rattle.std.specs.FinSet.{contains-empty}
 use Rattle.std.specs.FinSet.{contains-insert, contains-remove, len-empty, len-insert}
 use Rattle.std.proofs.lemmas.Bool.{cases_eq, cases_Bool}
 use Rattle.std.proofs.lemmas.Bool.Decides.{nat_tests}
+use Rattle.std.proofs.lemmas.List.FromFn.{length-range_with_len}
+use Rattle.wic_base.proofs.RangeFacts.{filter_all_in}
 
 -- a number that isn't there is taken out
 pub remove_absent : (s : FinSet nat_cmp) (i : ℕ) → contains s i ≡ false → remove s i ≡ s
@@ -136,3 +138,10 @@ at_most_in p a (suc m) = ⊎_elim
     (λ yes. rw yes (let e = at_most_in p (a + 1) m in omega arith))
     (λ no. rw no (let e = at_most_in p (a + 1) m in omega arith))
     (cases_Bool (p a))
+
+-- a range of m numbers has m members
+pub len-from_list-range : (a m : ℕ) → len (from_list {R = nat_cmp} (range_with_len a m)) ≡ m
+len-from_list-range a m =
+    let all : filter (λ _. true) (range_with_len a m) ≡ range_with_len a m = filter_all_in (λ _. true) a m (λ _ _ _. refl) in
+    ap (λ xs. len (from_list {R = nat_cmp} xs)) (sym all)
+    ∙ count_in (λ _. true) a m ∙ ap length all ∙ length-range_with_len a m

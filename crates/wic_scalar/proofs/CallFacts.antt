@@ -11,9 +11,9 @@ use Rattle.std.proofs.lemmas.Bool.Decides.{nat_tests, same_from_decides}
 use Rattle.std.specs.Cmp.Lexicographic.{pointwise, bytes_decides}
 use Rattle.wic_scalar.specs.Digits.{is_one, SameDigits, IsLowZeros, IsHighZeros}
 use Rattle.wic_scalar.specs.Scalar.{members_of, set_of}
-use Rattle.wic_scalar.proofs.SetFacts.{at_most_in, count_in, insert-remove, gone_after_remove, remove_absent}
-use Rattle.wic_scalar.proofs.MemberLemmas.{contains-set_of, set_of-insert, set_of-remove, members_of-none, none_from_empty}
-use Rattle.wic_scalar.proofs.MemberLemmas.{members_of-range, members_of-same, same_from_sets}
+use Rattle.wic_base.proofs.SetFacts.{at_most_in, count_in, insert-remove, gone_after_remove, remove_absent}
+use Rattle.wic_scalar.proofs.MemberFacts.{contains-set_of, set_of-insert, set_of-remove, members_of-none, none_from_empty}
+use Rattle.wic_scalar.proofs.MemberFacts.{members_of-range, members_of-same, same_from_sets}
 
 -- z is the number 0
 abbrev pub IsZero : ℕ → Type 0

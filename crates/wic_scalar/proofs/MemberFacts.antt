@@ -2,9 +2,9 @@
 use Rattle.std.proofs.Common.{⊎_elim, ◌≡◌, ℕ, zero, suc, ◌+◌, ◌-◌, ◌*◌, ◌^◌, ◌/◌, ◌%◌, ◌<◌, ◌≤◌, Bool, true, false, not, ◌&&◌, ◌||◌, cond}
 use Rattle.std.proofs.Common.{ltb, leb, List, [], ◌∷◌, ◌++◌, length, refl, sym, ap, ◌∙◌, arith, ◌↔◌, ◌≢◌, zero-add, add-zero, append-nil}
 use Rattle.std.proofs.Common.{length-append}
-use Rattle.std.specs.Prelude.{◌==◌, nat_lt, nat_eq, Contains, All}
+use Rattle.std.specs.Prelude.{◌==◌, nat_lt, nat_eq, Contains, All, Some, None}
 use Rattle.std.specs.List.Sorted.{IsStrictlyIncreasing}
-use Rattle.std.specs.List.{filter, range_with_len, list_any}
+use Rattle.std.specs.List.{filter, range_with_len, list_any, last_or, slice_get}
 use Rattle.std.specs.Ordering.{nat_cmp, eq_by_cmp}
 use Rattle.std.specs.Cmp.{nat_cmp_total, unsigned_tied}
 use Rattle.std.specs.FinSet.{FinSet, empty, contains, insert, remove, same_set, contains-insert, contains-remove}
@@ -20,77 +20,13 @@ use Rattle.std.proofs.Math.Nat.{pow-suc}
 use lib.Count.{ones, ones-ones}
 use Rattle.wic_scalar.specs.Digits.{is_one, SameDigits, IsLowZeros, IsHighZeros}
 use Rattle.wic_scalar.specs.Scalar.{members_of, set_of}
-use Rattle.wic_scalar.specs.Extremes.{IsGreatest, IsLeast}
-use Rattle.wic_scalar.proofs.DigitLemmas.{is_one-mod, top_digit}
-use Rattle.wic_scalar.proofs.SetFacts.{none_in_empty}
+use Rattle.wic_base.specs.Sets.{IsGreatest, IsLeast}
+use Rattle.wic_scalar.proofs.DigitFacts.{is_one-mod, top_digit}
+use Rattle.wic_base.proofs.RangeFacts.{filter_agree_in, filter_all_in, filter_first, filter_last, filter_none_in, range_append}
+use Rattle.wic_base.proofs.RangeFacts.{first_of_filter, last_of_filter}
+use Rattle.wic_base.proofs.SetFacts.{none_in_empty}
 
 -- ---- a range that a test filters
-
--- two tests that agree on the range keep the same numbers
-filter_agree_in : (p q : ℕ → Bool) (a n : ℕ) → ((i : ℕ) → a ≤ i → i < a + n → p i ≡ q i)
-    → filter p (range_with_len a n) ≡ filter q (range_with_len a n)
-filter_agree_in p q a zero same = refl
-filter_agree_in p q a (suc n) same =
-    let here : p a ≡ q a = same a (omega arith) (omega arith) in
-    let rest : filter p (range_with_len (a + 1) n) ≡ filter q (range_with_len (a + 1) n) =
-    filter_agree_in p q (a + 1) n (λ i low high. same i (omega arith) (omega arith)) in
-    rw (here, rest) refl
-
--- a test that fails on the range keeps nothing
-filter_none_in : (p : ℕ → Bool) (a n : ℕ) → ((i : ℕ) → a ≤ i → i < a + n → p i ≡ false) → filter p (range_with_len a n) ≡ []
-filter_none_in p a zero none = refl
-filter_none_in p a (suc n) none =
-    rw (none a (omega arith) (omega arith)) (filter_none_in p (a + 1) n (λ i low high. none i (omega arith) (omega arith)))
-
--- a test that passes on the range keeps it
-filter_all_in : (p : ℕ → Bool) (a n : ℕ) → ((i : ℕ) → a ≤ i → i < a + n → p i ≡ true) → filter p (range_with_len a n) ≡ range_with_len a n
-filter_all_in p a zero all = refl
-filter_all_in p a (suc n) all =
-    rw (all a (omega arith) (omega arith))
-    (ap (λ xs. a ∷ xs) (filter_all_in p (a + 1) n (λ i low high. all i (omega arith) (omega arith))))
-
--- z is the first of the range that passes p, and q is p without z
-filter_first : (p q : ℕ → Bool) (z a n : ℕ) → a ≤ z → z < a + n → p z ≡ true → ((i : ℕ) → a ≤ i → i < z → p i ≡ false)
-    → ((i : ℕ) → a ≤ i → i < a + n → q i ≡ (p i && not (i == z))) → filter p (range_with_len a n) ≡ z ∷ filter q (range_with_len a n)
-filter_first p q z a zero low high one none without = absurd (omega arith)
-filter_first p q z a (suc n) low high one none without = ⊎_elim
-    (λ same.
-    let p_here : p a ≡ true = ap p same ∙ one in
-    let q_here : q a ≡ false = let w = without a (omega arith) (omega arith) in grind (arith, nat_tests) in
-    let rest : filter p (range_with_len (a + 1) n) ≡ filter q (range_with_len (a + 1) n) =
-    filter_agree_in p q (a + 1) n (λ i l h. let w = without i (omega arith) (omega arith) in let apart : i ≢ z = omega arith in
-    grind (arith, nat_tests)) in
-    rw (p_here, q_here, rest, same) refl)
-    (λ apart.
-    let p_here : p a ≡ false = none a (omega arith) (omega arith) in
-    let q_here : q a ≡ false = let w = without a (omega arith) (omega arith) in grind (arith, nat_tests) in
-    rw (p_here, q_here) (filter_first p q z (a + 1) n (omega arith) (omega arith) one (λ i l h. none i (omega arith) h)
-    (λ i l h. without i (omega arith) (omega arith))))
-    (cases_eq a z)
-
--- z is the last of the range that passes p, and q is p without z
-filter_last : (p q : ℕ → Bool) (z a n : ℕ) → a ≤ z → z < a + n → p z ≡ true → ((i : ℕ) → z < i → i < a + n → p i ≡ false)
-    → ((i : ℕ) → a ≤ i → i < a + n → q i ≡ (p i && not (i == z)))
-    → filter p (range_with_len a n) ≡ filter q (range_with_len a n) ++ z ∷ []
-filter_last p q z a zero low high one none without = absurd (omega arith)
-filter_last p q z a (suc n) low high one none without = ⊎_elim
-    (λ same.
-    let p_here : p a ≡ true = ap p same ∙ one in
-    let q_here : q a ≡ false = let w = without a (omega arith) (omega arith) in grind (arith, nat_tests) in
-    let p_rest : filter p (range_with_len (a + 1) n) ≡ [] = filter_none_in p (a + 1) n (λ i l h. none i (omega arith) (omega arith)) in
-    let q_rest : filter q (range_with_len (a + 1) n) ≡ [] =
-    filter_none_in q (a + 1) n (λ i l h. let w = without i (omega arith) (omega arith) in let e =
-    none i (omega arith) (omega arith) in grind (arith, nat_tests)) in
-    rw (p_here, q_here, p_rest, q_rest, same) refl)
-    (λ apart.
-    let agree : q a ≡ p a = let w = without a (omega arith) (omega arith) in grind (arith, nat_tests) in
-    let rest : filter p (range_with_len (a + 1) n) ≡ filter q (range_with_len (a + 1) n) ++ z ∷ [] =
-    filter_last p q z (a + 1) n (omega arith) (omega arith) one (λ i l h. none i l (omega arith))
-    (λ i l h. without i (omega arith) (omega arith)) in
-    rw (agree, rest) (elim (p a) as
-    (λ b. cond b (a ∷ (filter q (range_with_len (a + 1) n) ++ z ∷ [])) (filter q (range_with_len (a + 1) n) ++ z ∷ []) ≡ cond b
-    (a ∷ filter q (range_with_len (a + 1) n)) (filter q (range_with_len (a + 1) n)) ++ z ∷ []) [ true ↦ refl | false ↦ refl ]))
-    (cases_eq a z)
 
 any_cond : (b : Bool) (x q : ℕ) (xs : List ℕ)
     → list_any (λ y. nat_eq y q) (cond b (x ∷ xs) xs) ≡ ((b && nat_eq x q) || list_any (λ y. nat_eq y q) xs)
@@ -163,13 +99,6 @@ set_of-remove w n m i digits =
     (cases_lt q w))
 
 -- ---- the list of members
-
-range_append : (a m n : ℕ) → range_with_len a (m + n) ≡ range_with_len a m ++ range_with_len (a + m) n
-range_append a zero n = rw (zero-add, add-zero) refl
-range_append a (suc m) n =
-    let e : suc m + n ≡ suc (m + n) = omega arith in
-    let f : a + 1 + m ≡ a + suc m = omega arith in
-    rw e (ap (λ xs. a ∷ xs) (range_append (a + 1) m n ∙ ap (λ b. range_with_len (a + 1) m ++ range_with_len b n) f))
 
 -- numbers with the same digits have the same members
 pub members_of-same : (w m n : ℕ) → SameDigits w m n → members_of w m ≡ members_of w n
@@ -320,6 +249,24 @@ greatest_member w n y z high at = record {
       let one : is_one n i ≡ true = sym (contains_below w n i within) ∙ there in
       ⊎_elim (λ above. let none = high.zeros i (omega arith) within in absurd (cc)) (λ below. below) (cases_lt z i);
 }
+
+-- the least member is the first of the list
+pub first-members_of : (w n x : ℕ) → IsLeast (set_of w n) x → slice_get (members_of w n) 0 ≡ Some x
+unfolding members_of
+first-members_of w n x least =
+    let here : x < w = below_width w n x least.member in
+    first_of_filter (is_one n) x 0 w (omega arith) (omega arith) (sym (contains_below w n x here) ∙ least.member)
+    (λ i _ before. false_from_ne_true (is_one n i)
+    (λ one. let at : x ≤ i = least.least i (contains_below w n i (omega arith) ∙ one) in omega arith))
+
+-- the greatest member is the last of the list
+pub last-members_of : (w n x : ℕ) → IsGreatest (set_of w n) x → last_or None (members_of w n) ≡ Some x
+unfolding members_of
+last-members_of w n x greatest =
+    let here : x < w = below_width w n x greatest.member in
+    last_of_filter (is_one n) x 0 w (omega arith) (omega arith) (sym (contains_below w n x here) ∙ greatest.member)
+    (λ i after h. false_from_ne_true (is_one n i)
+    (λ one. let at : i ≤ x = greatest.greatest i (contains_below w n i (omega arith) ∙ one) in omega arith))
 
 -- ---- one member taken out
 

@@ -5,9 +5,9 @@ use Rattle.std.proofs.lemmas.Nat.{leading_le, trailing_le, ones-le}
 use lib.Count.{ones, count_leading_zeros, count_trailing_zeros}
 use Rattle.wic_scalar.specs.Digits.{is_one, SameDigits, IsHighZeros}
 use Rattle.wic_scalar.specs.Scalar.{members_of}
-use Rattle.wic_scalar.proofs.MemberLemmas.{count-members_of}
-use Rattle.wic_scalar.proofs.DigitLemmas.{low_zeros, high_zeros, is_one-zero, is_one-bit_and, is_one-bit_or, is_one-pow, is_one-ones}
-use Rattle.wic_scalar.proofs.DigitLemmas.{is_one-complement, equal_digits, IsLowZeros-count, IsHighZeros-count}
+use Rattle.wic_scalar.proofs.MemberFacts.{count-members_of}
+use Rattle.wic_scalar.proofs.DigitFacts.{low_zeros, high_zeros, is_one-zero, is_one-bit_and, is_one-bit_or, is_one-pow, is_one-ones}
+use Rattle.wic_scalar.proofs.DigitFacts.{is_one-complement, equal_digits, IsLowZeros-count, IsHighZeros-count}
 
 -- what `1 << i`, `MAX >> (w - n)`, `!n`, `a == b` and the counts give at w digits. `x ≡ x` says nothing: it shows `grind` the count to
 -- match
