@@ -12,7 +12,7 @@ pub enum Done {
 }
 
 /// Why a batch wasn't done.
-#[derive(Clone, Copy, Debug, PartialEq, Eq)]
+#[derive(Clone, Copy, Debug)]
 pub struct Refusal {
     /// Why the command wasn't done.
     pub cause: Cause,
@@ -22,7 +22,7 @@ pub struct Refusal {
 }
 
 /// Why there is no more room.
-#[derive(Clone, Copy, Debug, PartialEq, Eq)]
+#[derive(Clone, Copy, Debug)]
 pub enum ReserveRefusal {
     /// No table can have so many live ids.
     TooLarge,

@@ -42,7 +42,7 @@ pub struct Batch<T> {
 }
 
 /// Why a command isn't done.
-#[derive(Clone, Copy, Debug, PartialEq, Eq)]
+#[derive(Clone, Copy, Debug)]
 pub enum Cause {
     /// The list is empty.
     Empty,
