@@ -1,9 +1,9 @@
 -- Records undone, part after part, and those of one command.
-use Rattle.std.proofs.Common.{◌≡◌, ℕ, ◌+◌, ◌-◌, ◌<◌, ◌≤◌, Bool, true, false, List, [], ◌∷◌, ◌++◌, map, reverse, length, take, drop, Some}
+use Rattle.std.proofs.Common.{◌≡◌, ℕ, zero, suc, ◌+◌, ◌-◌, ◌<◌, ◌≤◌, Bool, true, false, List, [], ◌∷◌, ◌++◌, map, reverse, length, take, drop, Some}
 use Rattle.std.proofs.Common.{None, refl, sym, ap, subst, ◌∙◌, arith, append_assoc, length-append, length-set, length-drop, is_some}
 use Rattle.std.specs.Prelude.{slice_set, nat_lt, not}
 use Rattle.std.proofs.lemmas.Bool.Decides.{nat_tests}
-use Rattle.std.proofs.lemmas.List.{append-nil, map-append, reverse-append, take-append-drop, drop-append-le, length-map, length-reverse}
+use Rattle.std.proofs.lemmas.List.{append-nil, map-append, reverse-append, take-append-drop, drop-append-le, length-map, length-reverse, take-take}
 use Rattle.std.specs.FinMap.{get, insert, remove, len}
 use Rattle.std.specs.FinSet.{contains, insert as with_member, remove as without_member}
 use Rattle.wic_slab.specs.Order.{next_id, take_next, give_back, BelongsTo}
@@ -14,7 +14,7 @@ use Rattle.wic_slab.proofs.OrderFacts.{next_id_not_live, give_back-take_next, ne
 use Rattle.batch_core.specs.State.{Contents, IsSound}
 use Rattle.batch_core.specs.Command.{unless, made_of, without_last, last_value, cause_of, effect_of, records_of}
 use Rattle.batch_core.specs.Back.{Capacities, Grows, IsWithin, undo_record, undo_all, back, CanUndo, CanGoBack}
-use Rattle.batch_core.specs.Laws.{UndoingGoesBack}
+use Rattle.batch_core.specs.Laws.{UndoingGoesBack, GoingBackInTwo}
 use Rattle.batch_core.specs.declared.command.Cause.{Cause}
 use Rattle.batch_core.specs.declared.command.Command.{Command}
 use Rattle.batch_core.specs.declared.command.Command.TheVariants.{Push, Pop, Set, Alloc, Free, Put, Insert, Remove, Truncate}
@@ -25,7 +25,7 @@ use Rattle.wic_base.proofs.MapFacts.{insert_back}
 use Rattle.wic_base.proofs.SetFacts.{remove-insert, insert_present, insert-remove, remove_absent}
 use Rattle.batch_core.proofs.ListFacts.{without_last-push, last_value-push, pushed, set_back, found_below}
 
--- where the test gives no cause, it holds
+-- if the test gives no cause, it holds
 pub admitted : (test : Bool) (cause : Cause) → unless test cause ≡ None → test ≡ true
 admitted true cause none = refl
 admitted false cause none = absurd (cc)
@@ -50,7 +50,7 @@ module _ {X : Type 0} where
       ∙ undo_cuts ys (record c { list = c.list ++ y ∷ [] })
       ∙ ap (λ l. record c { list = l }) (append_assoc c.list (y ∷ []) ys)
 
-  -- where there is a last value
+  -- a list that isn't empty has a last value
   pub ends_in : (l : List X) → nat_lt 0 (length l) ≡ true → (ys : List X) × (y : X) × (l ≡ ys ++ y ∷ [])
   ends_in [] some = absurd (cc)
   ends_in (x ∷ xs) some = pushed x xs
@@ -124,7 +124,7 @@ module _ {X : Type 0} where
       ∙ undo_cuts (drop kept c.list) (record c { list = take kept c.list })
       ∙ ap (λ l. record c { list = l }) (take-append-drop kept c.list)
 
-  -- xs ++ ys can be undone where ys can be, and xs can be once ys are undone
+  -- xs ++ ys can be undone if ys can be, and xs can be once ys are undone
   pub can_append : (within : Capacities) (xs ys : List (Record X)) (c : Contents X) → CanGoBack within ys c
       → CanGoBack within xs (undo_all ys c) → CanGoBack within (xs ++ ys) c
   can_append within [] ys c later earlier = later
@@ -152,12 +152,12 @@ module _ {X : Type 0} where
   can_undo_grow w v grows (Cut value) c can = omega arith
   can_undo_grow w v grows (Truncated removed) c can = tt
 
-  -- where capacities grow, going back stays possible
+  -- if capacities grow, going back stays possible
   pub can_grow : (w v : Capacities) → Grows w v → (rs : List (Record X)) (c : Contents X) → CanGoBack w rs c → CanGoBack v rs c
   can_grow w v grows [] c can = tt
   can_grow w v grows (r ∷ rs) c can = (can_grow w v grows rs c can.0, can_undo_grow w v grows r (undo_all rs c) can.1)
 
-  -- values that were cut off a list can be put back where the capacity of the list has room for them
+  -- values that were cut off a list can be put back if the capacity of the list has room for them
   pub can_cuts : (within : Capacities) (ys : List X) (c : Contents X) → length c.list + length ys ≤ within.list
       → CanGoBack within (map Cut (reverse ys)) c
   can_cuts within [] c room = tt
@@ -251,3 +251,18 @@ module _ {X : Type 0} where
       ∙ ap (λ l. undo_all l after) (drop-append-le mark rs added early)
       ∙ undo_all-append (drop mark rs) added after
       ∙ ap (undo_all (drop mark rs)) (ap (undo_all added) effect ∙ undoing_goes_back c command sound none)
+
+  in_two : (early late : ℕ) (rs : List (Record X)) (c : Contents X) → early ≤ late
+      → undo_all (drop early (take late rs)) (undo_all (drop late rs) c) ≡ undo_all (drop early rs) c
+  in_two zero zero [] c order = refl
+  in_two zero (suc late) [] c order = refl
+  in_two (suc early) zero [] c order = refl
+  in_two (suc early) (suc late) [] c order = refl
+  in_two zero zero (x ∷ rs) c order = refl
+  in_two zero (suc late) (x ∷ rs) c order = ap (undo_record x) (in_two zero late rs c (omega arith))
+  in_two (suc early) zero (x ∷ rs) c order = absurd (omega arith)
+  in_two (suc early) (suc late) (x ∷ rs) c order = in_two early late rs c (omega arith)
+
+  -- going back to a later mark and then to an earlier one is going back to the earlier one at once
+  pub going_back_in_two : GoingBackInTwo X
+  going_back_in_two c rs early late order = (in_two early late rs c order, take-take early late rs order)

@@ -57,7 +57,7 @@ refused_here o cause n at later is next =
     ap (λ x. option_map (later_by n) (front_or_later x later)) is
     ∙ ap (λ k. Some (record { cause = cause; at = k })) (sym next)
 
--- where P gives Q, and P holds if there is no cause, Q holds if there is no cause
+-- if P gives Q, and P holds if there is no cause, Q holds if there is no cause
 pub if_none_more : (o : Option Cause) (P Q : Type 0) → (P → Q) → IfNone o P → IfNone o Q
 if_none_more None P Q more here = more here
 if_none_more (Some cause) P Q more here = tt
@@ -311,6 +311,13 @@ module _ {X : Type 0} where
       → Fits room c commands
   fits_kept {room} {other} {c} {d} {commands} same_room same fits =
       subst (λ r. Fits r c commands) (sym same_room) (subst (λ k. Fits other k commands) (sym same) fits)
+
+  -- a batch that is refused is refused so for the same room and contents
+  pub refused_kept : (room other : ℕ) (c d : Contents X) (commands : List (Command X)) (ending : End) (cause : Cause) (at : ℕ)
+      → room ≡ other → c ≡ d → RefusedFor room c commands ending cause at → RefusedFor other d commands ending cause at
+  refused_kept room other c d commands ending cause at same_room same was =
+      subst (λ r. RefusedFor r d commands ending cause at) same_room
+      (subst (λ k. RefusedFor room k commands ending cause at) same was)
 
   -- a batch that fits the room isn't refused for memory
   pub never_refused : (room : ℕ) (c : Contents X) (commands : List (Command X)) (ending : End) (cause : Cause) (at : ℕ)

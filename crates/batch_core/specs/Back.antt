@@ -10,7 +10,7 @@ use Rattle.batch_core.specs.declared.record.Record.{Record}
 use Rattle.batch_core.specs.declared.record.Record.TheVariants.{Pushed, Popped, Replaced, Allocated, Freed, Put as Overwritten}
 use Rattle.batch_core.specs.declared.record.Record.TheVariants.{Inserted, Removed, Cut, Truncated}
 
--- how much fits with no request for memory: so many values in list and table, the numbers below so many in the set, and
+-- how much fits without an allocation: so many values in list and table, the numbers below so many in the set, and
 -- so many records
 pub record Capacities : Type 0 where
   pub list : ℕ
@@ -48,7 +48,7 @@ module _ {T : Type 0} where
   undo_record (Cut value) contents = record contents { list = contents.list ++ value ∷ [] }
   undo_record (Truncated removed) contents = contents
 
-  -- the contents once all these records are undone, the last first
+  -- the contents once all these records are undone, the last one first
   abbrev pub undo_all : List (Record T) → Contents T → Contents T
   undo_all [] contents = contents
   undo_all (first ∷ records) contents = undo_record first (undo_all records contents)
@@ -71,7 +71,7 @@ module _ {T : Type 0} where
   CanUndo within (Cut value) contents = length contents.list < within.list
   CanUndo within (Truncated removed) contents = ⊤
 
-  -- so it is for all these records, each where its turn comes
+  -- so it is for all these records, each when its turn comes
   abbrev pub CanGoBack : Capacities → List (Record T) → Contents T → Type 0
   CanGoBack within [] contents = ⊤
   CanGoBack within (first ∷ records) contents = CanGoBack within records contents × CanUndo within first (undo_all records contents)

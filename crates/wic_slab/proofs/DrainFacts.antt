@@ -1,12 +1,12 @@
 -- What calls of `next` of a `Drain` give, and what they leave.
-use Rattle.std.proofs.Common.{◌≡◌, ◌⊎◌, ℕ, ◌+◌, ◌<◌, ◌≤◌, T, List, [], ◌∷◌, length, Some, None, refl, sym, ap, subst, ◌∙◌, inl, inr}
+use Rattle.std.proofs.Common.{◌≡◌, ◌⊎◌, ℕ, ◌+◌, ◌<◌, ◌≤◌, [], ◌∷◌, length, None, refl, ap, subst, ◌∙◌, inl, inr}
 use Rattle.std.proofs.Common.{arith, nat_cmp}
 use Rattle.std.proofs.lemmas.Bool.{cases_eq, cases_lt}
-use Rattle.std.proofs.iter.runs.Sources.{from_front, as_is}
 use Rattle.std.specs.Iterator.Runs.{YieldsInOrder}
 use Rattle.std.specs.FinMap.{FinMap, get, remove, entries}
 use Rattle.wic_slab.specs.Drain.{drain_pairs, DrainSteps, DrainKeeps, DrainKeepsAlong}
 use Rattle.wic_slab.specs.declared.drain.Drain.{Drain}
+use Rattle.wic_base.proofs.Along.{keeps_along, in_order_by_firsts}
 use Rattle.wic_base.proofs.MapFacts.{entries_none, get-remove_same, get-remove_other}
 
 module _ {X : Type 0} where
@@ -40,14 +40,10 @@ module _ {X : Type 0} where
 
   -- the pairs that calls of `next` give are those that were still to come, in their order
   pub drain_in_order : YieldsInOrder (DrainSteps {T = X}) drain_pairs
-  drain_in_order run seen = as_is run (drain_pairs run.from)
-      (from_front (DrainSteps {T = X}) (λ x. x) drain_pairs (λ s t none. ap length none.0.0)
-      (λ s x t some. some.0) run seen)
+  drain_in_order = in_order_by_firsts (DrainSteps {T = X}) drain_pairs (λ s t none. none.0.0) (λ s x t some. some.0)
 
   -- however many pairs are taken out of a drain, it drains the same slab and leaves it the same capacity
   pub drain_keeps_along : (first : Drain X) → DrainKeepsAlong first
-  drain_keeps_along first [] later same = subst (DrainKeeps first) same (refl, refl)
-  drain_keeps_along first (x ∷ items) later steps =
-      let here = steps.1.1 in
-      let there = drain_keeps_along steps.0 items later steps.2 in
-      (there.0 ∙ here.0, there.1 ∙ here.1)
+  drain_keeps_along =
+      keeps_along (DrainSteps {T = X}) DrainKeeps (λ s. (refl, refl)) (λ r s t one other. (other.0 ∙ one.0, other.1 ∙ one.1))
+      (λ s t x step. step.1)

@@ -302,3 +302,10 @@ fresh-give_back_le o id below = fresh-give_to_le o.vacant o.fresh id below
 -- the order that starts at 0 is valid
 pub IsOrder-from_zero : IsOrder from_zero
 IsOrder-from_zero = record { distinct = distinct_none; below = tt; last_apart = λ same. omega arith; at_most = omega arith }
+
+-- a number above the limit is no live id
+pub not_live_beyond : {X : Type 0} (o : Order) (live : FinMap nat_cmp X) (id : ℕ) → IsOrder o → BelongsTo o live → max_capacity < id
+    → contains_key live id ≡ false
+not_live_beyond o live id ordered belongs beyond =
+    let most = ordered.at_most in
+    belongs id ∙ ap (λ below. below && not (is_vacant o id)) (nat_lt_false id o.fresh (omega arith))
