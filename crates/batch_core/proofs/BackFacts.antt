@@ -1,31 +1,31 @@
 -- Records undone, part after part, and those of one command.
-use Rattle.std.proofs.Common.{◌≡◌, ℕ, ◌+◌, ◌-◌, ◌<◌, ◌≤◌, Bool, true, false, List, [], ◌∷◌, ◌++◌, map, reverse, length, take, drop, Some}
+use Rattle.std.proofs.Common.{◌≡◌, ℕ, zero, suc, ◌+◌, ◌-◌, ◌<◌, ◌≤◌, Bool, true, false, List, [], ◌∷◌, ◌++◌, map, reverse, length, take, drop, Some}
 use Rattle.std.proofs.Common.{None, refl, sym, ap, subst, ◌∙◌, arith, append_assoc, length-append, length-set, length-drop, is_some}
 use Rattle.std.specs.Prelude.{slice_set, nat_lt, not}
 use Rattle.std.proofs.lemmas.Bool.Decides.{nat_tests}
-use Rattle.std.proofs.lemmas.List.{append-nil, map-append, reverse-append, take-append-drop, drop-append-le, length-map, length-reverse}
+use Rattle.std.proofs.lemmas.List.{append-nil, map-append, reverse-append, take-append-drop, drop-append-le, length-map, length-reverse, take-take}
 use Rattle.std.specs.FinMap.{get, insert, remove, len}
 use Rattle.std.specs.FinSet.{contains, insert as with_member, remove as without_member}
 use Rattle.wic_slab.specs.Order.{next_id, take_next, give_back, BelongsTo}
-use Rattle.wic_slab.proofs.LiveLemmas.{remove-insert as take_put, insert-remove as put_taken, none_from_not_some, live_value}
-use Rattle.wic_slab.proofs.LiveLemmas.{get-insert_same, len-insert_new}
-use Rattle.wic_slab.proofs.LiveLemmas.{len-remove_live, len_positive_from_live}
-use Rattle.wic_slab.proofs.OrderLemmas.{next_id_not_live, give_back-take_next, next_id-give_back, take_next-give_back}
+use Rattle.wic_base.proofs.MapFacts.{remove-insert as take_put, insert-remove as put_taken, none_from_not_some, value_at_key}
+use Rattle.wic_base.proofs.MapFacts.{get-insert_same, len-insert_new}
+use Rattle.wic_base.proofs.MapFacts.{len-remove_key, len_positive_from_key}
+use Rattle.wic_slab.proofs.OrderFacts.{next_id_not_live, give_back-take_next, next_id-give_back, take_next-give_back}
 use Rattle.batch_core.specs.State.{Contents, IsSound}
 use Rattle.batch_core.specs.Command.{unless, made_of, without_last, last_value, cause_of, effect_of, records_of}
 use Rattle.batch_core.specs.Back.{Capacities, Grows, IsWithin, undo_record, undo_all, back, CanUndo, CanGoBack}
-use Rattle.batch_core.specs.Laws.{UndoingGoesBack}
+use Rattle.batch_core.specs.Laws.{UndoingGoesBack, GoingBackInTwo}
 use Rattle.batch_core.specs.declared.command.Cause.{Cause}
 use Rattle.batch_core.specs.declared.command.Command.{Command}
 use Rattle.batch_core.specs.declared.command.Command.TheVariants.{Push, Pop, Set, Alloc, Free, Put, Insert, Remove, Truncate}
 use Rattle.batch_core.specs.declared.record.Record.{Record}
 use Rattle.batch_core.specs.declared.record.Record.TheVariants.{Pushed, Popped, Replaced, Allocated, Freed, Put as Overwritten}
 use Rattle.batch_core.specs.declared.record.Record.TheVariants.{Inserted, Removed, Cut, Truncated}
-use Rattle.wic_slab.proofs.LiveLemmas.{insert_back}
-use Rattle.wic_bitset.proofs.SetFacts.{remove-insert, insert_present, insert-remove, remove_absent}
+use Rattle.wic_base.proofs.MapFacts.{insert_back}
+use Rattle.wic_base.proofs.SetFacts.{remove-insert, insert_present, insert-remove, remove_absent}
 use Rattle.batch_core.proofs.ListFacts.{without_last-push, last_value-push, pushed, set_back, found_below}
 
--- where the test gives no cause, it holds
+-- if the test gives no cause, it holds
 pub admitted : (test : Bool) (cause : Cause) → unless test cause ≡ None → test ≡ true
 admitted true cause none = refl
 admitted false cause none = absurd (cc)
@@ -50,7 +50,7 @@ module _ {X : Type 0} where
       ∙ undo_cuts ys (record c { list = c.list ++ y ∷ [] })
       ∙ ap (λ l. record c { list = l }) (append_assoc c.list (y ∷ []) ys)
 
-  -- where there is a last value
+  -- a list that isn't empty has a last value
   pub ends_in : (l : List X) → nat_lt 0 (length l) ≡ true → (ys : List X) × (y : X) × (l ≡ ys ++ y ∷ [])
   ends_in [] some = absurd (cc)
   ends_in (x ∷ xs) some = pushed x xs
@@ -109,10 +109,10 @@ module _ {X : Type 0} where
       ∙ ap (λ l. record c { list = l }) (set_back c.list at value found.0 found.1)
   undoing_goes_back c (Alloc value) sound none = undo_alloc c value sound
   undoing_goes_back c (Free id) sound none =
-      let found = live_value c.live id (admitted _ _ none) in
+      let found = value_at_key c.live id (admitted _ _ none) in
       undo_free c id found.0 found.1
   undoing_goes_back c (Put id value) sound none =
-      let found = live_value c.live id (admitted _ _ none) in
+      let found = value_at_key c.live id (admitted _ _ none) in
       ap (λ o. undo_all (made_of o (Overwritten id)) (record c { live = insert c.live id value })) found.1
       ∙ ap (λ m. record c { live = m }) (insert_back c.live id value found.0 found.1)
   undoing_goes_back c (Insert number) sound none =
@@ -124,7 +124,7 @@ module _ {X : Type 0} where
       ∙ undo_cuts (drop kept c.list) (record c { list = take kept c.list })
       ∙ ap (λ l. record c { list = l }) (take-append-drop kept c.list)
 
-  -- xs ++ ys can be undone where ys can be, and xs can be once ys are undone
+  -- xs ++ ys can be undone if ys can be, and xs can be once ys are undone
   pub can_append : (within : Capacities) (xs ys : List (Record X)) (c : Contents X) → CanGoBack within ys c
       → CanGoBack within xs (undo_all ys c) → CanGoBack within (xs ++ ys) c
   can_append within [] ys c later earlier = later
@@ -152,12 +152,12 @@ module _ {X : Type 0} where
   can_undo_grow w v grows (Cut value) c can = omega arith
   can_undo_grow w v grows (Truncated removed) c can = tt
 
-  -- where capacities grow, going back stays possible
+  -- if capacities grow, going back stays possible
   pub can_grow : (w v : Capacities) → Grows w v → (rs : List (Record X)) (c : Contents X) → CanGoBack w rs c → CanGoBack v rs c
   can_grow w v grows [] c can = tt
   can_grow w v grows (r ∷ rs) c can = (can_grow w v grows rs c can.0, can_undo_grow w v grows r (undo_all rs c) can.1)
 
-  -- values that were cut off a list can be put back where the capacity of the list has room for them
+  -- values that were cut off a list can be put back if the capacity of the list has room for them
   pub can_cuts : (within : Capacities) (ys : List X) (c : Contents X) → length c.list + length ys ≤ within.list
       → CanGoBack within (map Cut (reverse ys)) c
   can_cuts within [] c room = tt
@@ -200,13 +200,13 @@ module _ {X : Type 0} where
   can_step w c (Alloc value) room sound none = (tt, ap is_some (get-insert_same c.live (next_id c.order) value))
   can_step w c (Free id) room sound none =
       let live = admitted _ _ none in
-      let found = live_value c.live id live in
+      let found = value_at_key c.live id live in
       let less : len (remove c.live id) < w.table =
-      omega (arith, len-remove_live c.live id live, len_positive_from_live c.live id live, room.table) in
+      omega (arith, len-remove_key c.live id live, len_positive_from_key c.live id live, room.table) in
       subst (λ o. CanGoBack w (made_of o (Freed id)) (record c { live = remove c.live id; order = give_back c.order id })) (sym found.1)
       (tt, less)
   can_step w c (Put id value) room sound none =
-      let found = live_value c.live id (admitted _ _ none) in
+      let found = value_at_key c.live id (admitted _ _ none) in
       subst (λ o. CanGoBack w (made_of o (Overwritten id)) (record c { live = insert c.live id value })) (sym found.1)
       (tt, ap is_some (get-insert_same c.live id value))
   can_step w c (Insert number) room sound none = (tt, tt)
@@ -251,3 +251,18 @@ module _ {X : Type 0} where
       ∙ ap (λ l. undo_all l after) (drop-append-le mark rs added early)
       ∙ undo_all-append (drop mark rs) added after
       ∙ ap (undo_all (drop mark rs)) (ap (undo_all added) effect ∙ undoing_goes_back c command sound none)
+
+  in_two : (early late : ℕ) (rs : List (Record X)) (c : Contents X) → early ≤ late
+      → undo_all (drop early (take late rs)) (undo_all (drop late rs) c) ≡ undo_all (drop early rs) c
+  in_two zero zero [] c order = refl
+  in_two zero (suc late) [] c order = refl
+  in_two (suc early) zero [] c order = refl
+  in_two (suc early) (suc late) [] c order = refl
+  in_two zero zero (x ∷ rs) c order = refl
+  in_two zero (suc late) (x ∷ rs) c order = ap (undo_record x) (in_two zero late rs c (omega arith))
+  in_two (suc early) zero (x ∷ rs) c order = absurd (omega arith)
+  in_two (suc early) (suc late) (x ∷ rs) c order = in_two early late rs c (omega arith)
+
+  -- going back to a later mark and then to an earlier one is going back to the earlier one at once
+  pub going_back_in_two : GoingBackInTwo X
+  going_back_in_two c rs early late order = (in_two early late rs c order, take-take early late rs order)

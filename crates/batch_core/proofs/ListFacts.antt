@@ -12,11 +12,11 @@ module _ {T : Type 0} where
   slice_get-push [] y = refl
   slice_get-push (x ∷ ys) y = slice_get-push ys y
 
-  -- ys with y put behind it is ys without its last value
+  -- ys and then y, without its last value, is ys
   pub without_last-push : (ys : List T) (y : T) → without_last (ys ++ y ∷ []) ≡ ys
   without_last-push ys y = ap (λ n. take n (ys ++ y ∷ [])) (length-push ys y) ∙ take-append_seam ys (y ∷ [])
 
-  -- the last value of ys with y put behind it is y
+  -- the last value of ys and then y is y
   pub last_value-push : (ys : List T) (y : T) → last_value (ys ++ y ∷ []) ≡ Some y
   last_value-push ys y = ap (slice_get (ys ++ y ∷ [])) (length-push ys y) ∙ slice_get-push ys y
 
@@ -37,10 +37,10 @@ module _ {T : Type 0} where
   found_below (x ∷ xs) zero below = (x, refl)
   found_below (x ∷ xs) (suc i) below = found_below xs i (omega arith)
 
-  -- where xs is ys with y put behind it, xs without its last value is ys
+  -- if xs is ys and then y, xs without its last value is ys
   pub without_last_of : (xs ys : List T) (y : T) → xs ≡ ys ++ y ∷ [] → without_last xs ≡ ys
   without_last_of xs ys y made = ap without_last made ∙ without_last-push ys y
 
-  -- where xs is ys with y put behind it, the last value of xs is y
+  -- if xs is ys and then y, the last value of xs is y
   pub last_value_of : (xs ys : List T) (y : T) → xs ≡ ys ++ y ∷ [] → last_value xs ≡ Some y
   last_value_of xs ys y made = ap last_value made ∙ last_value-push ys y

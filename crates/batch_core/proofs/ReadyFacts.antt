@@ -14,7 +14,7 @@ module _ {X : Type 0} where
   going_back_kept w rs all c after records contents can =
       subst (λ l. CanGoBack w l after) (sym records) (subst (CanGoBack w rs) (sym contents) can)
 
-  -- where contents and records stay
+  -- if contents and records stay
   pub ready_kept : (old new : Workspace X) → new.contents ≡ old.contents → new.records ≡ old.records → new.room ≡ old.room
       → Grows old.capacities new.capacities → IsReady old → IsReady new
   ready_kept old new contents records room grows ready = record {
@@ -26,7 +26,7 @@ module _ {X : Type 0} where
     records = omega (arith, ready.records, grows.records, room);
   }
 
-  -- where they stay and the room is larger
+  -- if they stay and the room is larger
   pub ready_reserved : (old new : Workspace X) → new.contents ≡ old.contents → new.records ≡ old.records → new.room ≤ new.capacities.list
       → new.room ≤ new.capacities.set → new.room ≤ new.capacities.table → new.room ≤ new.capacities.records
       → Grows old.capacities new.capacities → IsReady old → IsReady new
@@ -39,7 +39,7 @@ module _ {X : Type 0} where
     records = record_room;
   }
 
-  -- where a command took effect
+  -- if a command took effect
   pub ready_done : (old new : Workspace X) (command : Command X) → IsDone old command new → cause_of old.contents command ≡ None
       → IsWithin old.capacities old.contents → IsSound old.contents → new.room ≡ old.room → Grows old.capacities new.capacities
       → IsReady old → IsReady new

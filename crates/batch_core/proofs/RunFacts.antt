@@ -5,7 +5,7 @@ use Rattle.std.specs.Prelude.{IfNone, slice_get}
 use Rattle.std.specs.Option.{option_map}
 use Rattle.std.proofs.Math.Seq.{take-append_seam}
 use Rattle.std.specs.FinMap.{get}
-use Rattle.wic_slab.proofs.LiveLemmas.{len-insert_again, len-remove_live}
+use Rattle.wic_base.proofs.MapFacts.{len-insert_again, len-remove_key}
 use Rattle.batch_core.specs.State.{Contents, IsSound}
 use Rattle.batch_core.specs.Command.{made_of, last_value, cause_of, effect_of, records_of}
 use Rattle.batch_core.specs.Back.{Grows, IsWithin, undo_all}
@@ -57,7 +57,7 @@ refused_here o cause n at later is next =
     ap (λ x. option_map (later_by n) (front_or_later x later)) is
     ∙ ap (λ k. Some (record { cause = cause; at = k })) (sym next)
 
--- where P gives Q, and P holds if there is no cause, Q holds if there is no cause
+-- if P gives Q, and P holds if there is no cause, Q holds if there is no cause
 pub if_none_more : (o : Option Cause) (P Q : Type 0) → (P → Q) → IfNone o P → IfNone o Q
 if_none_more None P Q more here = more here
 if_none_more (Some cause) P Q more here = tt
@@ -114,7 +114,7 @@ module _ {X : Type 0} where
   has_room s (Free id) count ready within none stays few room = record {
     list = within.list;
     set = within.set;
-    table = omega (arith, len-remove_live s.contents.live id (admitted _ _ none), within.table);
+    table = omega (arith, len-remove_key s.contents.live id (admitted _ _ none), within.table);
     records = one_record s (Free id) count refl few room;
   }
   has_room s (Put id value) count ready within none stays few room = record {
@@ -311,6 +311,13 @@ module _ {X : Type 0} where
       → Fits room c commands
   fits_kept {room} {other} {c} {d} {commands} same_room same fits =
       subst (λ r. Fits r c commands) (sym same_room) (subst (λ k. Fits other k commands) (sym same) fits)
+
+  -- a batch that is refused is refused so for the same room and contents
+  pub refused_kept : (room other : ℕ) (c d : Contents X) (commands : List (Command X)) (ending : End) (cause : Cause) (at : ℕ)
+      → room ≡ other → c ≡ d → RefusedFor room c commands ending cause at → RefusedFor other d commands ending cause at
+  refused_kept room other c d commands ending cause at same_room same was =
+      subst (λ r. RefusedFor r d commands ending cause at) same_room
+      (subst (λ k. RefusedFor room k commands ending cause at) same was)
 
   -- a batch that fits the room isn't refused for memory
   pub never_refused : (room : ℕ) (c : Contents X) (commands : List (Command X)) (ending : End) (cause : Cause) (at : ℕ)

@@ -1,4 +1,4 @@
--- What the answers of a batch say.
+-- What the results of a batch say.
 use Rattle.std.specs.Prelude.{◌≡◌, ℕ, zero, suc, ◌<◌, List, [], take, length, None}
 use Rattle.std.specs.declared.result.Result.{Result}
 use Rattle.std.specs.declared.result.Result.TheVariants.{Ok, Err}
@@ -29,7 +29,11 @@ module _ {T : Type 0} where
   RefusedFor room contents commands ending cause at =
       outcome_of contents commands ending ≡ (refused (record { cause = cause; at = at }), contents)
 
-  -- a batch was answered so, and left the workspace so
+  -- the same whatever the end of the batch
+  abbrev pub RefusedAtAnyEnd : ℕ → Contents T → List (Command T) → Cause → ℕ → Type 0
+  RefusedAtAnyEnd room contents commands cause at = (ending : End) → RefusedFor room contents commands ending cause at
+
+  -- a batch had this result, and left the workspace so
   abbrev pub IsApplied : Workspace T → List (Command T) → End → Result Done Refusal → Workspace T → Type 0
   IsApplied old commands ending (Ok Committed) new =
       outcome_of old.contents commands ending ≡ (committed new.records, new.contents)

@@ -3,14 +3,14 @@ use Rattle.std.specs.Prelude.{⊤, ◌≡◌, ℕ, ◌<◌, ◌≤◌, true, fal
 use Rattle.std.specs.FinMap.{insert, remove, contains_key, len}
 use Rattle.std.specs.FinSet.{insert as with_member, remove as without_member}
 use Rattle.wic_slab.specs.Order.{next_id, take_next, give_back}
-use Rattle.wic_bitset.specs.Compound.{AllBelow}
+use Rattle.wic_base.specs.Sets.{AllBelow}
 use Rattle.batch_core.specs.State.{Contents, max_member}
 use Rattle.batch_core.specs.Command.{without_last}
 use Rattle.batch_core.specs.declared.record.Record.{Record}
 use Rattle.batch_core.specs.declared.record.Record.TheVariants.{Pushed, Popped, Replaced, Allocated, Freed, Put as Overwritten}
 use Rattle.batch_core.specs.declared.record.Record.TheVariants.{Inserted, Removed, Cut, Truncated}
 
--- how much fits with no request for memory: so many values in list and table, the numbers below so many in the set, and
+-- how much fits without an allocation: so many values in list and table, the numbers below so many in the set, and
 -- so many records
 pub record Capacities : Type 0 where
   pub list : ℕ
@@ -48,7 +48,7 @@ module _ {T : Type 0} where
   undo_record (Cut value) contents = record contents { list = contents.list ++ value ∷ [] }
   undo_record (Truncated removed) contents = contents
 
-  -- the contents once all these records are undone, the last first
+  -- the contents once all these records are undone, the last one first
   abbrev pub undo_all : List (Record T) → Contents T → Contents T
   undo_all [] contents = contents
   undo_all (first ∷ records) contents = undo_record first (undo_all records contents)
@@ -71,7 +71,7 @@ module _ {T : Type 0} where
   CanUndo within (Cut value) contents = length contents.list < within.list
   CanUndo within (Truncated removed) contents = ⊤
 
-  -- so it is for all these records, each where its turn comes
+  -- so it is for all these records, each when its turn comes
   abbrev pub CanGoBack : Capacities → List (Record T) → Contents T → Type 0
   CanGoBack within [] contents = ⊤
   CanGoBack within (first ∷ records) contents = CanGoBack within records contents × CanUndo within first (undo_all records contents)

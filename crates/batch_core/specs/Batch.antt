@@ -24,7 +24,7 @@ pub data Outcome (T : Type 0) : Type 0 where
 abbrev pub later_by : ℕ → BadCommand → BadCommand
 later_by places bad = record bad { at = places + bad.at }
 
--- the first command of two parts of a batch that is bad: the command in front, or else one behind it
+-- the first bad command: the first command if it has a cause, or else one after it
 abbrev pub front_or_later : Option Cause → Option BadCommand → Option BadCommand
 front_or_later (Some cause) later = Some (record { cause = cause; at = 1 })
 front_or_later None later = option_map (later_by 1) later

@@ -13,7 +13,7 @@ use Rattle.batch_core.specs.declared.record.Record.{Record}
 use Rattle.batch_core.specs.declared.record.Record.TheVariants.{Pushed, Popped, Replaced, Allocated, Freed, Put as Overwritten}
 use Rattle.batch_core.specs.declared.record.Record.TheVariants.{Inserted, Removed, Cut, Truncated}
 
--- no cause where the test holds, and else this one
+-- no cause if the test holds, and else this one
 abbrev pub unless : Bool → Cause → Option Cause
 unless true cause = None
 unless false cause = Some cause
@@ -27,12 +27,12 @@ module _ {T : Type 0} where
   abbrev pub last_value : List T → Option T
   last_value values = slice_get values (length values - 1)
 
-  -- the record that is made of a value, where there is the value
+  -- the record that is made of a value, if there is one
   abbrev pub made_of : Option T → (T → Record T) → List (Record T)
   made_of None made = []
   made_of (Some old) made = made old ∷ []
 
-  -- the cause of the command in these contents; it is admitted where there is none
+  -- the cause of the command in these contents; it is admitted if there is none
   abbrev pub cause_of : Contents T → Command T → Option Cause
   cause_of contents (Push value) = None
   cause_of contents Pop = unless (nat_lt 0 (length contents.list)) Empty

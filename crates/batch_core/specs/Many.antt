@@ -1,4 +1,4 @@
--- Batches one after the other.
+-- Batches in sequence.
 use Rattle.std.specs.Prelude.{⊤, ℕ, ◌≤◌, List, [], ◌∷◌}
 use Rattle.batch_core.specs.State.{Contents}
 use Rattle.batch_core.specs.Batch.{outcome_of}

@@ -7,7 +7,7 @@ use Rattle.std.specs.FinSet.{FinSet, code as set_code}
 use Rattle.batch_core.specs.State.{Contents}
 use Rattle.batch_core.specs.Command.{cause_of, effect_of, records_of}
 use Rattle.batch_core.specs.Back.{Capacities, CanGoBack}
-use Rattle.wic_bitset.specs.Compound.{AllBelow}
+use Rattle.wic_base.specs.Sets.{AllBelow}
 use Rattle.batch_core.specs.Room.{Passes}
 use Rattle.batch_core.specs.declared.command.Cause.{Cause}
 use Rattle.batch_core.specs.declared.command.Cause.TheVariants.{Oom}
@@ -46,14 +46,13 @@ workspace_code {T} value one_record =
     })
     (λ _. refl)
 
--- want of memory
+-- out of memory
 abbrev pub IsOom : Cause → Type 0
 IsOom (Oom size) = ⊤
 IsOom cause = ⊥
 
 module _ {T : Type 0} where
-  -- what is true of every workspace: its records can be taken back with no request for memory, and no capacity is below
-  -- the room
+  -- the invariant of a workspace: its records can be undone without an allocation, and no capacity is below the room
   pub record IsReady (s : Workspace T) : Type 0 where
     pub back : CanGoBack s.capacities s.records s.contents
     pub list : s.room ≤ s.capacities.list
@@ -78,7 +77,7 @@ module _ {T : Type 0} where
     pub table : len (effect_of s.contents command).live ≤ s.capacities.table
     pub records : length s.records + length (records_of s.contents command) ≤ s.capacities.records
 
-  -- why a command wasn't done: its cause, or else want of memory, and then it would pass a capacity
+  -- why a command wasn't done: its cause, or else out of memory, and then it would pass a capacity
   abbrev pub IsCauseOf : Workspace T → Command T → Cause → Type 0
   IsCauseOf s command (Oom size) = (cause_of s.contents command ≡ None) × (¬ HasRoom s command)
   IsCauseOf s command cause = cause_of s.contents command ≡ Some cause

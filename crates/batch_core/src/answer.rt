@@ -1,31 +1,31 @@
-//! How a workspace answers.
+//! What the calls of a workspace return.
 use crate::command::Cause;
 use wic_base::OutOfMemory;
 
-/// How a batch was done. Own.
+/// How a batch was done.
 #[derive(Clone, Copy, Debug, PartialEq, Eq)]
 pub enum Done {
     /// All commands took effect.
     Committed,
-    /// All commands could be done, and were taken back.
+    /// All commands could be done, and were undone.
     Aborted,
 }
 
-/// Why a batch wasn't done. Own.
+/// Why a batch wasn't done.
 #[derive(Clone, Copy, Debug)]
 pub struct Refusal {
     /// Why the command wasn't done.
     pub cause: Cause,
-    /// The number of the command in the batch, from 1; or 0, where there was no memory for the records that are asked for
-    /// before the first command.
+    /// The number of the command in the batch, from 1; or 0 if memory ran out for the records, which are reserved before the
+    /// first command.
     pub at: u64,
 }
 
-/// Why there is no more room. Own.
+/// Why there is no more room.
 #[derive(Clone, Copy, Debug)]
 pub enum ReserveRefusal {
     /// No table can have so many live ids.
     TooLarge,
-    /// There was no memory.
+    /// Out of memory.
     Oom(OutOfMemory),
 }

@@ -1,11 +1,13 @@
 //! Callers of a workspace, proved from its contracts and laws alone.
-ghost use Rattle.std.specs.Prelude.{◌≡◌, ◌++◌, OnOk};
+ghost use Rattle.std.specs.Prelude.{◌≡◌, ◌<◌, ◌≤◌, ◌++◌, length, IsOk, IsTrue, OnOk};
+ghost use Rattle.std.specs.FinMap.{len};
+ghost use Rattle.batch_core.specs.Back.{back};
 ghost use Rattle.batch_core.specs.Command.{effect_of, records_of};
 ghost use Rattle.batch_core.specs.Many.{contents_after_all, AllFit};
 
 use crate::answer::ReserveRefusal;
 use crate::command::{Batch, Cause, Command};
-use crate::laws::law_larger_room;
+use crate::laws::{law_alloc_adds_one, law_back_in_two, law_larger_room, law_same_contents};
 use crate::workspace::Workspace;
 use wic_vec::TryVec;
 
@@ -17,7 +19,8 @@ pub fn reserve_and_run<T: Drop>(
     batches: TryVec<Batch<T>>,
 ) -> Result<(), ReserveRefusal>
     requires fit { AllFit n workspace.old.contents batches.items }
-    ensures contents { OnOk result (workspace.new.contents ≡ contents_after_all workspace.old.contents batches.items) }
+    ensures contents { OnOk result
+        (workspace.new.contents ≡ contents_after_all workspace.old.contents batches.items) }
 {
     workspace.reserve(n)?;
     for batch in batches {
@@ -27,15 +30,17 @@ pub fn reserve_and_run<T: Drop>(
     Ok(())
 }
 
-// Does one command for good and tries two more, which are taken back, whether they could be done or not.
+// Does one command for good and tries two more, which are undone, whether they could be done or not.
 pub fn keep_one_and_try_two<T: Drop>(
     workspace: &mut Workspace<T>,
     kept: Command<T>,
     tried: Command<T>,
     then: Command<T>,
 ) -> Result<(), Cause>
-    ensures contents { OnOk result (workspace.new.contents ≡ effect_of workspace.old.contents kept) }
-    ensures records { OnOk result (workspace.new.records ≡ workspace.old.records ++ records_of workspace.old.contents kept) }
+    ensures contents { OnOk result
+        (workspace.new.contents ≡ effect_of workspace.old.contents kept) }
+    ensures records { OnOk result (workspace.new.records
+        ≡ workspace.old.records ++ records_of workspace.old.contents kept) }
 {
     workspace.step(kept)?;
     let mark = workspace.mark();
@@ -44,4 +49,35 @@ pub fn keep_one_and_try_two<T: Drop>(
     }
     workspace.back_to(mark);
     Ok(())
+}
+
+// Goes back to a mark, and then to an earlier one: the contents are those that the earlier mark stands for.
+pub fn go_back_in_two<T: Drop>(workspace: &mut Workspace<T>, early: usize, late: usize)
+    requires order { early ≤ late }
+    requires within { late ≤ length workspace.old.records }
+    ensures contents { workspace.new.contents
+        ≡ back workspace.old.contents workspace.old.records early }
+{
+    law_back_in_two::<T>();
+    workspace.back_to(late);
+    workspace.back_to(early);
+}
+
+// Holds a value while there is room for one more: memory doesn't refuse it.
+pub fn hold_within<T: Drop>(workspace: &mut Workspace<T>, value: T) -> Result<(), Cause>
+    requires records { length workspace.old.records < workspace.old.room }
+    requires live { len workspace.old.contents.live < workspace.old.room }
+    ensures held { IsOk result }
+{
+    law_alloc_adds_one::<T>();
+    let _ = workspace.mark();
+    workspace.step(Command::Alloc(value))
+}
+
+// Whether two workspaces of numbers have the same contents: then their lists are equal.
+pub fn are_alike(one: &Workspace<u64>, other: &Workspace<u64>) -> bool
+    ensures same_lists { IsTrue result → one.now.contents.list ≡ other.now.contents.list }
+{
+    law_same_contents::<u64>();
+    one.same_contents(other)
 }

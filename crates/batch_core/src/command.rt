@@ -2,7 +2,7 @@
 use wic_base::OutOfMemory;
 use wic_vec::TryVec;
 
-/// One command of a batch. Own.
+/// One command of a batch.
 #[derive(Debug, Drop, PartialEq, Eq)]
 pub enum Command<T> {
     /// Puts the value at the end of the list.
@@ -13,7 +13,7 @@ pub enum Command<T> {
     Set(u64, T),
     /// Holds the value under the next id.
     Alloc(T),
-    /// Gives this id back, and takes its value out.
+    /// Frees this id, and takes its value out.
     Free(u64),
     /// Puts the value under this id, which is live.
     Put(u64, T),
@@ -21,32 +21,32 @@ pub enum Command<T> {
     Insert(u64),
     /// Takes the number out of the set.
     Remove(u64),
-    /// Leaves so many values at the front of the list, and takes the others out.
+    /// Keeps so many values of the list, from the first one, and takes the others out.
     Truncate(u64),
 }
 
-/// How a batch ends: what it did stays, or is taken back. Own.
+/// How a batch ends: what it did stays, or is undone.
 #[derive(Clone, Copy, Debug, PartialEq, Eq)]
 pub enum End {
     /// What the commands did stays.
     Commit,
-    /// What the commands did is taken back.
+    /// What the commands did is undone.
     Abort,
 }
 
-/// Commands that take effect together or not at all. Own.
+/// Commands that take effect together or not at all.
 #[derive(Drop)]
 pub struct Batch<T> {
     pub commands: TryVec<Command<T>>,
     pub end: End,
 }
 
-/// Why a command isn't done. Own.
+/// Why a command isn't done.
 #[derive(Clone, Copy, Debug)]
 pub enum Cause {
     /// The list is empty.
     Empty,
-    /// The place isn't below the length of the list; or more values are to be left than there are.
+    /// The place isn't below the length of the list; or more values are to be kept than there are.
     Position,
     /// The id isn't live.
     Vacant,
@@ -54,6 +54,6 @@ pub enum Cause {
     Full,
     /// The number is above the greatest that the set can have.
     TooLarge,
-    /// There was no memory for the effect of the command or for its records.
+    /// Out of memory, for the effect of the command or for its records.
     Oom(OutOfMemory),
 }

@@ -1,18 +1,32 @@
-//! Laws over the definitions that the contracts of `Workspace` cite. No call of this module does anything.
-ghost use Rattle.batch_core.specs.Laws.{UndoingGoesBack};
+//! Laws over the definitions that the contracts of `Workspace` cite. The calls of this module do nothing.
+ghost use Rattle.batch_core.specs.Laws.{UndoingGoesBack, GoingBackInTwo};
+ghost use Rattle.batch_core.specs.Laws.{AllocationAddsOne, SameContentsAreEqual};
 ghost use Rattle.batch_core.specs.Many.{FitsLargerRooms};
 
-/// Undoing the records of an admitted command, the last first, on the contents after it gives the contents before it: list,
-/// set, live values and the order of all later ids.
-///
-/// A law of this project's own; the contracts of `Workspace::step` and `Workspace::back_to` tie it to the calls.
+/// Undoing the records of an admitted command, the last one first, on the contents after it gives the contents before it:
+/// list, set, live values and the order of all later ids. The contracts of `Workspace::step` and `Workspace::back_to` tie
+/// it to the calls.
 pub fn law_undo<T>()
     ensures { UndoingGoesBack T }
 {}
 
 /// A batch that fits a room fits every larger one, so that what was planned for one reservation may run within a greater one.
-///
-/// A law of this project's own, for callers that reserve.
 pub fn law_larger_room<T>()
     ensures { FitsLargerRooms T }
+{}
+
+/// Going back to a mark, and then to an earlier one, is going back to the earlier one at once.
+pub fn law_back_in_two<T>()
+    ensures { GoingBackInTwo T }
+{}
+
+/// An admitted allocation raises the number of live ids by one. With it a caller can show that a batch fits the room: `mark`
+/// tells that the contents are sound.
+pub fn law_alloc_adds_one<T>()
+    ensures { AllocationAddsOne T }
+{}
+
+/// For a type whose comparison is equality, `same_contents` says exactly whether list, set and live values are equal.
+pub fn law_same_contents<T>()
+    ensures { SameContentsAreEqual T }
 {}

@@ -1,8 +1,9 @@
-//! What commands leave behind when they took effect.
+//! What commands leave behind after they took effect.
 
-/// What a command that took effect tells, and what takes it back. Own.
+/// What a command that took effect tells, and what undoes it.
 ///
-/// Each command leaves one, but `Truncate`: it leaves a `Cut` a value, the last value first, and then a `Truncated`.
+/// Each command leaves one record, except `Truncate`: it records one `Cut` per value, starting from the last, and then a
+/// `Truncated`.
 #[derive(Debug, Drop, PartialEq, Eq)]
 pub enum Record<T> {
     /// A value was put at the end of the list.
@@ -13,7 +14,7 @@ pub enum Record<T> {
     Replaced { at: u64, old: T },
     /// A value is held under this id.
     Allocated { id: u32 },
-    /// This id was given back, and its value was this one.
+    /// This id was freed, and its value was this one.
     Freed { id: u32, old: T },
     /// The value under this id was this one.
     Put { id: u32, old: T },

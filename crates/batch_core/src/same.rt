@@ -8,7 +8,8 @@ use wic_slab::Slab;
 
 /// Whether the same ids are live in both tables, with equal values. Ids to come aren't compared.
 pub(crate) fn same_pairs<T: Eq>(table: &Slab<T>, other: &Slab<T>) -> bool
-    ensures { result ≡ pointwise (same_pair T.eq) (entries table.now.live) (entries other.now.live) }
+    ensures { result
+        ≡ pointwise (same_pair T.eq) (entries table.now.live) (entries other.now.live) }
 {
     let mut left = table.iter();
     let mut right = other.iter();

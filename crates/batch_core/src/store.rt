@@ -1,14 +1,15 @@
-//! What a workspace holds: the commands done in place, each with its records.
+//! What a workspace holds: a list, a set, a table and records. Commands are done in place.
 ghost use Rattle.std.specs.Prelude.{◌≡◌, ◌+◌, ◌<◌, ◌≤◌, ◌↔◌, [], ◌∷◌, ◌++◌, ℕ, length, take, true, None, Some};
-ghost use Rattle.std.specs.Prelude.{IsTrue, IsOk, IsSome, IfSome, IfErr, OnOk, OnErr};
+ghost use Rattle.std.specs.Prelude.{IsTrue, IsOk, IsSome, IfSome, OnOk, OnErr};
 ghost use Rattle.std.specs.FinMap.{contains_key, len};
 ghost use Rattle.wic_slab.specs.Order.{max_capacity};
 ghost use Rattle.batch_core.specs.Back.{Grows, IsWithin, CanUndo, CanGoBack, undo_record, back};
 ghost use Rattle.batch_core.specs.State.{no_contents, IsSound};
 ghost use Rattle.batch_core.specs.Command.{cause_of, effect_of, unless};
-ghost use Rattle.wic_bitset.specs.Compound.{AllBelow, capacity_of};
+ghost use Rattle.wic_base.specs.Sets.{AllBelow};
+ghost use Rattle.wic_bitset.specs.Compound.{capacity_of};
 ghost use Rattle.batch_core.specs.Same.{HaveSameContents};
-ghost use Rattle.batch_core.specs.Workspace.{IsDone, IsKept, HasRoom, IsCauseOf};
+ghost use Rattle.batch_core.specs.Workspace.{IsDone, IsKept, HasRoom};
 
 use crate::command::{Cause, Command};
 use crate::record::Record;
@@ -24,7 +25,7 @@ use wic_vec::TryVec;
 // The greatest number that the set can have.
 const MAX_MEMBER: u64 = 4294967295;
 
-/// Values in a list and in a table, the records of what was done, and the room.
+/// Values in a list and in a table, numbers in a set, the records of what was done, and the room.
 #[derive(Drop)]
 pub struct Store<T: Drop> {
     list: TryVec<T>,
@@ -39,7 +40,8 @@ impl<T: Drop> Model for Store<T> {
     ghost use Rattle.std.specs.Ordering.{nat_cmp};
     ghost use Rattle.std.specs.FinMap.{code};
     ghost use Rattle.std.specs.FinSet.{code as set_code};
-    ghost use Rattle.wic_bitset.specs.Compound.{AllBelow, capacity_of};
+    ghost use Rattle.wic_base.specs.Sets.{AllBelow};
+    ghost use Rattle.wic_bitset.specs.Compound.{capacity_of};
     ghost use Rattle.batch_core.specs.Workspace.{Workspace as Held};
 
     ghost Value = { Held T };
@@ -88,6 +90,7 @@ impl<T: Drop> Store<T> {
         ensures sound { IsSound self.now.contents }
         ensures limit { self.now.capacities.table ≤ max_capacity }
     {
+        // For the proof: the list is within its capacity, the set within its own, and the table is sound.
         let _ = self.list.len();
         let _ = self.set.capacity();
         let _ = self.table.len();
@@ -125,7 +128,7 @@ impl<T: Drop> Store<T> {
         &self.table
     }
 
-    /// The cause of the command, or `None` where it is admitted.
+    /// The cause of the command, or `None` if it is admitted.
     pub fn cause(&self, command: &Command<T>) -> Option<Cause>
         ensures cause { result ≡ cause_of self.now.contents command.now }
     {
@@ -147,6 +150,7 @@ impl<T: Drop> Store<T> {
     fn is_live(&self, id: u64) -> bool
         ensures { result ≡ contains_key self.now.contents.live id }
     {
+        // For the proof: the table is sound, so no id above the limit is live.
         let _ = self.table.len();
         match id_of(id) {
             Some(id) => self.table.contains(id),
@@ -160,7 +164,8 @@ impl<T: Drop> Store<T> {
         ensures err { OnErr result (IsKept self.old self.new) }
         ensures room { self.new.room ≡ self.old.room }
         ensures grows { Grows self.old.capacities self.new.capacities }
-        ensures refused_only_full { OnErr result (length self.old.contents.list ≡ self.old.capacities.list) }
+        ensures refused_only_full { OnErr result
+            (length self.old.contents.list ≡ self.old.capacities.list) }
     {
         self.list.push(value)?;
         self.records.push_reserved(Record::Pushed);
@@ -201,6 +206,7 @@ impl<T: Drop> Store<T> {
         ensures never_refused_within { len (effect_of self.old.contents (Command.Alloc value)).live ≤ self.old.capacities.table
             → IsOk result }
     {
+        // For the proof: the order belongs to the live ids, so the next id is a new one.
         let _ = self.table.len();
         let id = self.table.alloc(value)?;
         self.records
@@ -265,7 +271,7 @@ impl<T: Drop> Store<T> {
             .push_reserved(Record::Removed { number, was_there });
     }
 
-    // Room for all records is there before the first value is taken out.
+    // Makes room for all records before it takes the first value out.
     fn truncate(&mut self, kept: u64) -> Result<(), OutOfMemory>
         requires admitted { cause_of self.old.contents (Command.Truncate kept) ≡ None }
         ensures ok { OnOk result (IsDone self.old (Command.Truncate kept) self.new) }
@@ -274,6 +280,7 @@ impl<T: Drop> Store<T> {
         ensures grows { Grows self.old.capacities self.new.capacities }
         ensures never_refused_within { HasRoom self.old (Command.Truncate kept) → IsOk result }
     {
+        // For the proof: the capacity is at most the greatest `usize`, so a number of records above that has no room.
         let _ = self.records.capacity();
         let removed = self.list.len() - kept as usize;
         match removed.checked_add(1) {
@@ -292,26 +299,8 @@ impl<T: Drop> Store<T> {
         Ok(())
     }
 
-    /// Does the command, where it is admitted and there is memory. Contents and records stay where it isn't done.
-    pub fn step(&mut self, command: Command<T>) -> Result<(), Cause>
-        ensures ok { OnOk result (IsDone self.old command self.new) }
-        ensures admitted { OnOk result (cause_of self.old.contents command ≡ None) }
-        ensures cause { IfErr result (λ cause. IsCauseOf self.old command cause) }
-        ensures err { OnErr result (IsKept self.old self.new) }
-        ensures room { self.new.room ≡ self.old.room }
-        ensures grows { Grows self.old.capacities self.new.capacities }
-    {
-        if let Some(cause) = self.cause(&command) {
-            return Err(cause);
-        }
-        match self.perform(command) {
-            Ok(()) => Ok(()),
-            Err(oom) => Err(Cause::Oom(oom)),
-        }
-    }
-
-    // Does an admitted command.
-    fn perform(&mut self, command: Command<T>) -> Result<(), OutOfMemory>
+    /// Does an admitted command. Contents and records stay if memory runs out.
+    pub fn perform(&mut self, command: Command<T>) -> Result<(), OutOfMemory>
         requires admitted { cause_of self.old.contents command ≡ None }
         ensures ok { OnOk result (IsDone self.old command self.new) }
         ensures err { OnErr result (IsKept self.old self.new) }
@@ -373,7 +362,7 @@ impl<T: Drop> Store<T> {
         Ok(())
     }
 
-    /// Undoes the records after the mark, the last first, and drops them. It takes no memory.
+    /// Undoes the records after the mark, the last one first, and drops them. It allocates nothing.
     pub fn back_to(&mut self, mark: usize)
         requires mark { mark ≤ length self.old.records }
         requires can { CanGoBack self.old.capacities self.old.records self.old.contents }
@@ -413,7 +402,7 @@ impl<T: Drop> Store<T> {
         self.records.pop()
     }
 
-    // Undoes one record, which is in no list of records any more.
+    // Undoes one record, which was taken out of the list of records.
     fn undo(&mut self, newest: Record<T>)
         requires can { CanUndo self.old.capacities newest self.old.contents }
         ensures contents { self.new.contents ≡ undo_record newest self.old.contents }
@@ -481,6 +470,7 @@ impl<T: Drop> Store<T> {
         requires { contains_key self.now.contents.live id ≡ true }
         ensures { result ≡ id }
     {
+        // For the proof: the table is sound, so no id above the limit is live.
         let _ = self.table.len();
         match id_of(id) {
             Some(id) => id,
@@ -489,7 +479,7 @@ impl<T: Drop> Store<T> {
     }
 }
 
-// No cause where the test holds, and else this one.
+// No cause if the test holds, and else this one.
 fn unless(test: bool, cause: Cause) -> Option<Cause>
     ensures { result ≡ unless test cause }
 {

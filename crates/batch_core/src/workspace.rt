@@ -1,8 +1,9 @@
 //! A workspace: a list, a set and a table that change together or not at all.
-ghost use Rattle.std.specs.Prelude.{◌≡◌, ◌<◌, ◌≤◌, ◌↔◌, [], ℕ, None, Err, max, length, take, IsTrue, IsOk, IfErr, OnOk, OnErr};
+ghost use Rattle.std.specs.Prelude.{◌≡◌, ◌<◌, ◌≤◌, ◌↔◌, [], ℕ, None, Err, max, length, take};
+ghost use Rattle.std.specs.Prelude.{IsTrue, IsOk, IfErr, OnOk, OnErr};
 ghost use Rattle.wic_slab.specs.Order.{max_capacity};
 ghost use Rattle.wic_bitset.specs.Compound.{capacity_of};
-ghost use Rattle.batch_core.specs.Applied.{RefusedFor, IsApplied};
+ghost use Rattle.batch_core.specs.Applied.{RefusedAtAnyEnd, IsApplied};
 ghost use Rattle.batch_core.specs.Batch.{first_bad, contents_after, records_after};
 ghost use Rattle.batch_core.specs.Back.{Grows, IsWithin, back};
 ghost use Rattle.batch_core.specs.Command.{cause_of};
@@ -26,8 +27,8 @@ use wic_vec::TryVec;
 /// A list, a set and a table, the records of what was done to them, and a room.
 ///
 /// A contract sees the contents, the records, the room, and the capacities of list, set, table and records. Whatever was
-/// done since the records were last empty can be undone, and that takes no memory: there is room for each value that
-/// comes back. No call lowers a capacity, and none of the capacities is below the room. Own.
+/// done since the records were last empty can be undone without an allocation: there is room for each value that
+/// comes back. No call lowers a capacity, and none of the capacities is below the room.
 #[derive(Drop)]
 pub struct Workspace<T: Drop> {
     store: Store<T>,
@@ -51,7 +52,7 @@ impl<T: Drop> Model for Workspace<T> {
 }
 
 impl<T: Drop> Workspace<T> {
-    /// The empty workspace, of room 0. It takes no memory. Own.
+    /// The empty workspace, of room 0. It allocates nothing.
     pub fn new(alloc: Global) -> Workspace<T>
         ensures contents { result.contents ≡ no_contents }
         ensures records { result.records ≡ [] }
@@ -63,41 +64,42 @@ impl<T: Drop> Workspace<T> {
         }
     }
 
-    /// The greatest reservation that was accepted, or 0. Own.
+    /// The greatest reservation that was accepted, or 0.
     pub fn room(&self) -> u64
         ensures room { result ≡ self.now.room }
     {
         self.store.room()
     }
 
-    /// The number of records: what is done from here on can be undone by going back to it. Own.
+    /// The number of records: what is done from here on can be undone by going back to it.
     ///
-    /// Its contract also says what is true of every workspace: the contents are within the capacities and a state of the
-    /// plain machine, the records can be undone, and no capacity is below the room.
+    /// Its contract also states the invariants of a workspace: the contents are within the capacities and a state of the
+    /// plain machine, the records can be undone, and no capacity is below the room, which is at most 4294967294.
     pub fn mark(&self) -> usize
         ensures mark { result ≡ length self.now.records }
         ensures within { IsWithin self.now.capacities self.now.contents }
         ensures sound { IsSound self.now.contents }
         ensures ready { IsReady self.now }
+        ensures limit { self.now.room ≤ max_capacity }
     {
         self.store.mark()
     }
 
-    /// The records, in place: after a batch that was committed they show the replies of its commands, in order. Own.
+    /// The records, in place: after a committed batch they show the replies of its commands, in order.
     pub fn replies(&self) -> &[Record<T>]
         ensures records { result.now ≡ self.now.records }
     {
         self.store.replies()
     }
 
-    /// The values of the list, in place. Own.
+    /// The values of the list, in place.
     pub fn list(&self) -> &[T]
         ensures list { result.now ≡ self.now.contents.list }
     {
         self.store.list()
     }
 
-    /// The set. Own.
+    /// The set.
     pub fn set(&self) -> &CompoundBitSet<u64>
         ensures members { result.now.members ≡ self.now.contents.set }
         ensures capacity { capacity_of 64 result.now ≡ self.now.capacities.set }
@@ -105,7 +107,7 @@ impl<T: Drop> Workspace<T> {
         self.store.set()
     }
 
-    /// The table. Own.
+    /// The table.
     pub fn table(&self) -> &Slab<T>
         ensures live { result.now.live ≡ self.now.contents.live }
         ensures order { result.now.order ≡ self.now.contents.order }
@@ -114,30 +116,37 @@ impl<T: Drop> Workspace<T> {
         self.store.table()
     }
 
-    /// Does the command and adds the records that show its reply. A cause comes exactly where the plain machine says so,
-    /// and before memory is asked for; `Oom` only where the command would pass the capacity of list, set, table or
-    /// records. Where it isn't done, contents and records stay and its value is dropped. A command that is admitted and
-    /// keeps within the room is never refused. Own.
+    /// Does the command and adds the records that show its reply. A cause comes exactly when the plain machine says so,
+    /// before any allocation: the workspace is then as before, capacities too. `Oom` comes only if the command would pass the
+    /// capacity of list, set, table or records; contents and records stay then, and capacities may have grown. The value
+    /// of a command that isn't done is dropped. A command that is admitted and keeps within the room is never refused.
     pub fn step(&mut self, command: Command<T>) -> Result<(), Cause>
         ensures done { OnOk result (IsDone self.old command self.new) }
         ensures admitted { OnOk result (cause_of self.old.contents command ≡ None) }
         ensures cause { IfErr result (λ cause. IsCauseOf self.old command cause) }
+        ensures cause_leaves { IfErr result (λ cause. ¬ IsOom cause → self.new ≡ self.old) }
         ensures refusal_leaves { OnErr result (IsKept self.old self.new) }
-        ensures never_refused_within { cause_of self.old.contents command ≡ None → KeepsWithin self.old command → IsOk result }
+        ensures never_refused_within { cause_of self.old.contents command ≡ None
+            → KeepsWithin self.old command → IsOk result }
         ensures back { (mark : ℕ) → mark ≤ length self.old.records
-            → back self.new.contents self.new.records mark ≡ back self.old.contents self.old.records mark }
+            → back self.new.contents self.new.records mark
+            ≡ back self.old.contents self.old.records mark }
         ensures room { self.new.room ≡ self.old.room }
         ensures grows { Grows self.old.capacities self.new.capacities }
     {
+        // For the proof: the contents are sound and within the capacities.
         let _ = self.store.mark();
-        if let Err(cause) = self.store.step(command) {
+        if let Some(cause) = self.store.cause(&command) {
             return Err(cause);
+        }
+        if let Err(oom) = self.store.perform(command) {
+            return Err(Cause::Oom(oom));
         }
         Ok(())
     }
 
-    /// Undoes the records after the mark, the last first, and drops them. It can't be refused and takes no memory. The room
-    /// and the capacities stay. Own.
+    /// Undoes the records after the mark, the last one first, and drops them. It can't be refused and allocates nothing. The
+    /// room and the capacities stay.
     pub fn back_to(&mut self, mark: usize)
         requires mark { mark ≤ length self.old.records }
         ensures contents { self.new.contents ≡ back self.old.contents self.old.records mark }
@@ -148,8 +157,8 @@ impl<T: Drop> Workspace<T> {
         self.store.back_to(mark);
     }
 
-    /// Forgets the records, so that nothing before can be undone any more, and makes room for `n` of them. It is refused
-    /// only where `n` is above the room; the records are empty then too. The contents stay. Own.
+    /// Forgets the records, so that nothing before can be undone any more, and makes room for `n` of them. A refusal comes
+    /// only if `n` is above the room; the records are empty then too. The contents stay.
     pub fn begin_records(&mut self, n: usize) -> Result<(), OutOfMemory>
         ensures contents { self.new.contents ≡ self.old.contents }
         ensures records { self.new.records ≡ [] }
@@ -162,19 +171,21 @@ impl<T: Drop> Workspace<T> {
         self.store.begin_records(n)
     }
 
-    /// Makes the room at least `n`: from then on each batch that fits `n` is done without a request for memory. Where `n` is
-    /// at most the room nothing is asked for and nothing changes. `TooLarge` comes exactly where `n` is above 4294967294;
-    /// after it and after `Oom` the room stays. Contents and records stay in every case. Own.
+    /// Makes the room at least `n`: from then on each batch that fits `n` is done without an allocation. If `n` is at most
+    /// the room, nothing changes. `TooLarge` comes exactly if `n` is above 4294967294, and nothing changes then either,
+    /// capacities too. After `Oom` the room stays, and capacities may have grown. Contents and records always stay.
     pub fn reserve(&mut self, n: u64) -> Result<(), ReserveRefusal>
         ensures room { OnOk result (self.new.room ≡ max self.old.room n) }
         ensures too_large { (result ≡ Err ReserveRefusal.TooLarge) ↔ (max_capacity < n) }
         ensures never_refused_within { n ≤ self.old.room → IsOk result }
         ensures unchanged_within { n ≤ self.old.room → self.new ≡ self.old }
+        ensures too_large_leaves { max_capacity < n → self.new ≡ self.old }
         ensures refusal_leaves_room { OnErr result (self.new.room ≡ self.old.room) }
         ensures contents { self.new.contents ≡ self.old.contents }
         ensures records { self.new.records ≡ self.old.records }
         ensures grows { Grows self.old.capacities self.new.capacities }
     {
+        // For the proof: the capacity of the table, and so the room, is at most the limit.
         let _ = self.store.mark();
         if n > MAX_CAPACITY as u64 {
             return Err(ReserveRefusal::TooLarge);
@@ -190,14 +201,20 @@ impl<T: Drop> Workspace<T> {
 
     // Does the commands of a batch, up to the first one that isn't done. What those before it did stays, and can be
     // undone.
-    fn run(&mut self, commands: TryVec<Command<T>>, ending: End) -> Result<(), Refusal>
+    fn run(&mut self, commands: TryVec<Command<T>>) -> Result<(), Refusal>
         requires fresh { self.old.records ≡ [] }
         requires room { length commands.items ≤ self.old.capacities.records }
         ensures not_bad { OnOk result (first_bad self.old.contents commands.items ≡ None) }
-        ensures contents { OnOk result (self.new.contents ≡ contents_after self.old.contents commands.items) }
-        ensures records { OnOk result (self.new.records ≡ records_after self.old.contents commands.items) }
-        ensures refused { IfErr result (λ r. RefusedFor self.old.room self.old.contents commands.items ending r.cause r.at) }
-        ensures never_oom_within { Fits self.old.room self.old.contents commands.items → IfErr result (λ r. ¬ IsOom r.cause) }
+        ensures contents { OnOk result
+            (self.new.contents ≡ contents_after self.old.contents commands.items) }
+        ensures records { OnOk result
+            (self.new.records ≡ records_after self.old.contents commands.items) }
+        ensures refused { IfErr result (λ r.
+            RefusedAtAnyEnd self.old.room self.old.contents commands.items r.cause r.at) }
+        ensures at_from_one { IfErr result (λ r. 1 ≤ r.at) }
+        ensures at_within { IfErr result (λ r. r.at ≤ length commands.items) }
+        ensures never_oom_within { Fits self.old.room self.old.contents commands.items
+            → IfErr result (λ r. ¬ IsOom r.cause) }
         ensures never_refused_within { Fits self.old.room self.old.contents commands.items
             → first_bad self.old.contents commands.items ≡ None → IsOk result }
         ensures back { back self.new.contents self.new.records 0 ≡ self.old.contents }
@@ -207,6 +224,7 @@ impl<T: Drop> Workspace<T> {
         let mut at: u64 = 0;
         for command in commands {
             at += 1;
+            // For the proof: the workspace is ready, and its contents are sound and within the capacities.
             let _ = self.mark();
             if let Err(cause) = self.step(command) {
                 return Err(Refusal { cause, at });
@@ -215,16 +233,18 @@ impl<T: Drop> Workspace<T> {
         Ok(())
     }
 
-    /// Does a batch whole, or leaves list, set, table and the order of all later ids as they were. Own.
+    /// Does a batch whole, or leaves list, set, table and the order of all later ids as they were.
     ///
-    /// It answers what the plain machine answers: a `Refusal` with the first bad command, also where the batch ends in
+    /// It returns what the plain machine says: a `Refusal` with the first bad command, also if the batch ends in
     /// `Abort`; else `Aborted` or `Committed`. After `Committed` the records show the replies, and going back over all of
-    /// them gives the contents before; after every other answer they are empty. Only a batch that doesn't fit the room may
-    /// be refused with `Oom` instead: at command 0 only where it has more commands than the room, and at a later one only
-    /// where that one or one before it passes the room and none of them is bad. What was done until then is undone, which
-    /// takes no memory.
+    /// them gives the contents before; otherwise they are empty. Only a batch that doesn't fit the room may
+    /// be refused with `Oom` instead: at command 0 only if it has more commands than the room, and at a later one only
+    /// if that one or one before it passes the room and none of them is bad. What was done until then is undone without an
+    /// allocation. Capacities that have grown stay.
     pub fn apply(&mut self, batch: Batch<T>) -> Result<Done, Refusal>
         ensures applied { IsApplied self.old batch.commands.items batch.end result self.new }
+        ensures at_from_one { IfErr result (λ r. ¬ IsOom r.cause → 1 ≤ r.at) }
+        ensures at_within { IfErr result (λ r. r.at ≤ length batch.commands.items) }
         ensures never_oom_within { Fits self.old.room self.old.contents batch.commands.items
             → IfErr result (λ r. ¬ IsOom r.cause) }
         ensures never_refused_within { Fits self.old.room self.old.contents batch.commands.items
@@ -243,7 +263,7 @@ impl<T: Drop> Workspace<T> {
         let empty = Workspace::new(self.alloc);
         let held = mem::replace(self, empty);
         let mut guard = Undo::new(held, |workspace: Workspace<T>| workspace.taken_back());
-        if let Err(refusal) = guard.get_mut().run(commands, end) {
+        if let Err(refusal) = guard.get_mut().run(commands) {
             *self = Undo::roll_back(guard);
             return Err(refusal);
         }
@@ -260,7 +280,7 @@ impl<T: Drop> Workspace<T> {
     }
 
     /// Whether both workspaces have the same contents: equal lists, sets of the same members, and tables with the same live ids
-    /// and equal values. The order of later ids, the records and the room aren't compared. It takes no memory. Own.
+    /// and equal values. The order of later ids, the records and the room aren't compared. It allocates nothing.
     pub fn same_contents(&self, other: &Workspace<T>) -> bool
     where
         T: Eq,
@@ -269,7 +289,7 @@ impl<T: Drop> Workspace<T> {
         self.store.same_contents(&other.store)
     }
 
-    // The workspace with all records undone, the last first.
+    // The workspace with all records undone, the last one first.
     fn taken_back(mut self) -> Workspace<T>
         ensures contents { result.contents ≡ back self.contents self.records 0 }
         ensures records { result.records ≡ [] }

@@ -4,9 +4,9 @@ use Rattle.std.specs.Ordering.{nat_cmp}
 use Rattle.std.specs.Cmp.{nat_cmp_total}
 use Rattle.std.specs.FinSet.{FinSet, empty, contains, insert, remove, len, len-insert, len-remove, empty_of_len}
 use Rattle.std.proofs.lemmas.Bool.{cases_eq, cases_lt}
-use Rattle.wic_bitset.specs.Compound.{AllBelow}
+use Rattle.wic_base.specs.Sets.{AllBelow}
 use Rattle.wic_bitset.proofs.RisingFacts.{length-rising, length-rising-le}
-use Rattle.wic_bitset.proofs.SetFacts.{none_in_empty, there_after_insert, same_after_insert, same_after_remove, len-insert-le}
+use Rattle.wic_base.proofs.SetFacts.{none_in_empty, there_after_insert, same_after_insert, same_after_remove, len-insert-le}
 use Rattle.entity_set.specs.Follows.{IsFollowed}
 
 -- on the way: each block is done or still on the worklist

@@ -6,8 +6,8 @@ use Rattle.std.specs.Cmp.{nat_cmp_total}
 use Rattle.std.specs.FinSet.{FinSet, empty, contains, insert, remove, union, intersection, difference}
 use Rattle.std.specs.FinSet.{contains-union, contains-intersection, contains-difference}
 use Rattle.std.proofs.lemmas.Bool.{cases_eq, and_parts, or_cases}
-use Rattle.wic_bitset.specs.Compound.{AllBelow}
-use Rattle.wic_bitset.proofs.SetFacts.{none_in_empty, same_after_insert, was_before_remove}
+use Rattle.wic_base.specs.Sets.{AllBelow}
+use Rattle.wic_base.proofs.SetFacts.{none_in_empty, same_after_insert, was_before_remove}
 
 module _ (n : ℕ) where
   -- no members

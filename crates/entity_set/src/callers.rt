@@ -1,7 +1,7 @@
 //! Callers of a set, proved from its contracts alone.
 ghost use Rattle.std.specs.Prelude.{◌≡◌, ℕ, ◌<◌, length, slice_index, OnOk};
 ghost use Rattle.std.specs.FinSet as fin_set;
-ghost use Rattle.wic_bitset.specs.Compound.{AllBelow};
+ghost use Rattle.wic_base.specs.Sets.{AllBelow};
 ghost use Rattle.entity_set.specs.Follows.{IsFollowed};
 
 use crate::{EntityRef, EntitySet};

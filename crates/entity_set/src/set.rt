@@ -3,7 +3,7 @@ ghost use Rattle.std.specs.Prelude.{◌≡◌, ℕ, ◌<◌, ◌≤◌, ◌↔�
 ghost use Rattle.std.specs.Prelude.{IsTrue, IsOk, IsNone, IfOk, IfSome, IfNone, OnOk, OnErr};
 ghost use Rattle.std.specs.List.Sorted.{IsStrictlyIncreasing};
 ghost use Rattle.std.specs.FinSet as fin_set;
-ghost use Rattle.wic_bitset.specs.Compound.{AllBelow, HasFrom, HasMore};
+ghost use Rattle.wic_base.specs.Sets.{AllBelow, HasFrom, HasMore};
 ghost use Rattle.wic_bitset.specs.Rising.{rising};
 
 use crate::entity::EntityRef;
@@ -24,7 +24,8 @@ pub struct EntitySet<K: EntityRef> {
 }
 
 impl<K: EntityRef> Model for EntitySet<K> {
-    ghost use Rattle.wic_bitset.specs.Compound.{capacity_of, AllBelow};
+    ghost use Rattle.wic_base.specs.Sets.{AllBelow};
+    ghost use Rattle.wic_bitset.specs.Compound.{capacity_of};
     ghost use Rattle.entity_set.specs.Entities.{Entities, entities_code};
 
     ghost Value = { Entities };

@@ -1,1 +1,2 @@
+pub mod KeptFacts
 pub mod StaleFacts

@@ -8,10 +8,10 @@ use Rattle.std.specs.Ordering.{nat_cmp}
 use Rattle.std.specs.FinMap.{FinMap, get, insert, remove, get-empty}
 use Rattle.std.proofs.lemmas.Bool.{cases_eq}
 use Rattle.std.proofs.lemmas.Bool.Decides.{nat_tests}
-use Rattle.wic_slab.proofs.LiveLemmas.{get-insert_same, get-insert_other, get-remove_same, get-remove_other}
+use Rattle.wic_base.proofs.MapFacts.{get-insert_same, get-insert_other, get-remove_same, get-remove_other}
 use Rattle.wic_slab.specs.Order.{Order, next_id}
 use Rattle.gen_slab.specs.Handle.{Handle}
-use Rattle.gen_slab.specs.GenSlab.{GenState, IsCounted, last_count, next_handle, value_in, value_of, with_next, without, rewritten}
+use Rattle.gen_slab.specs.GenSlab.{GenState, IsCounted, IsGone, last_count, next_handle, value_in, value_of, with_next, without, rewritten}
 use Rattle.gen_slab.specs.Runs.{Step, take_in, take_out, write, IsFresh, Leads, LeadAll, StaleStaysStale}
 use Rattle.gen_slab.specs.declared.slab.Held.{Held}
 
@@ -41,13 +41,6 @@ not_now generation count (inl below) apart = λ same. omega arith
 not_now generation count (inr same) apart = absurd (apart same)
 
 module _ {X : Type 0} where
-  -- the handle is dead, and no later generation is its own
-  record IsGone (s : GenState X) (handle : Handle) : Type 0 where
-    -- nothing is found under the handle
-    pub dead : value_of s handle ≡ None
-    -- its generation is below the count, or none is given any more
-    pub past : (handle.generation < s.count) ⊎ (s.count ≡ last_count)
-
   -- another generation finds nothing
   none_in : (generation : ℕ) (held : Held X) → held.generation ≢ generation → value_in generation held ≡ None
   none_in generation held apart =
@@ -72,7 +65,8 @@ module _ {X : Type 0} where
       → (held : Held X) × (get s.live handle.id ≡ Some held) × (held.generation ≡ handle.generation)
   live_held s handle some = held_of handle.generation (get s.live handle.id) some
 
-  same_held : (o : Option (Held X)) (a b : Held X) → o ≡ Some a → o ≡ Some b → a ≡ b
+  -- one place holds one value
+  pub same_held : (o : Option (Held X)) (a b : Held X) → o ≡ Some a → o ≡ Some b → a ≡ b
   same_held o a b is be = let both : Some a ≡ Some b = sym is ∙ be in cc
 
   none_some : (o : Option (Held X)) (held : Held X) → o ≡ None → o ≡ Some held → ⊥
@@ -128,7 +122,8 @@ module _ {X : Type 0} where
     at_most = was.at_most;
   }
 
-  counted_rewritten : (s : GenState X) (handle : Handle) (value : X) → IsSome (value_of s handle) → IsCounted s
+  -- the generations stay within the count when a live handle is written
+  pub counted_rewritten : (s : GenState X) (handle : Handle) (value : X) → IsSome (value_of s handle) → IsCounted s
       → IsCounted (rewritten s handle value)
   counted_rewritten s handle value some was =
       let live = live_held s handle some in
@@ -163,7 +158,8 @@ module _ {X : Type 0} where
   pub dead_after : (s : GenState X) (handle : Handle) → value_of (without s handle) handle ≡ None
   dead_after s handle = ap (option_and_then (value_in handle.generation)) (get-remove_same s.live handle.id)
 
-  gone_without : (s : GenState X) (handle : Handle) → IsCounted s → IsSome (value_of s handle) → IsGone (without s handle) handle
+  -- a live handle whose value is taken out is gone
+  pub gone_without : (s : GenState X) (handle : Handle) → IsCounted s → IsSome (value_of s handle) → IsGone (without s handle) handle
   gone_without s handle was some =
       let live = live_held s handle some in record {
         dead = dead_after s handle;
@@ -187,7 +183,7 @@ module _ {X : Type 0} where
       (λ differs. ap (option_and_then (value_in handle.generation)) (get-remove_other s.live other.id handle.id differs) ∙ gone.dead)
       (cases_eq handle.id other.id)
 
-  -- where a dead handle's id is live, it is so in another generation
+  -- if a dead handle's id is live, it is so in another generation
   other_generation : (s : GenState X) (other handle : Handle) → IsSome (value_of s other) → handle.id ≡ other.id
       → value_of s handle ≡ None → other.generation ≢ handle.generation
   other_generation s other handle some same dead = λ equal.
@@ -207,18 +203,33 @@ module _ {X : Type 0} where
       (λ differs. ap (option_and_then (value_in handle.generation)) (get-insert_other s.live other.id _ handle.id differs) ∙ gone.dead)
       (cases_eq handle.id other.id)
 
+  -- a gone handle stays gone when a value is held
+  pub still_gone_next : (s : GenState X) (value : X) (handle : Handle) → s.count ≢ last_count → IsGone s handle
+      → IsGone (with_next s value) handle
+  still_gone_next s value handle apart gone = record { dead = dead_next s value handle apart gone; past = gone.past }
+
+  -- and when a value is taken out
+  pub still_gone_without : (s : GenState X) (other handle : Handle) → IsCounted s → IsGone s handle → IsGone (without s other) handle
+  still_gone_without s other handle was gone =
+      record { dead = dead_without s other handle gone; past = past_stays handle.generation s.count was.at_most gone.past }
+
+  -- and when a live handle is written
+  pub still_gone_rewritten : (s : GenState X) (other handle : Handle) (value : X) → IsSome (value_of s other) → IsGone s handle
+      → IsGone (rewritten s other value) handle
+  still_gone_rewritten s other handle value some gone =
+      record { dead = dead_rewritten s other handle value some gone; past = gone.past }
+
   gone_step : (s next : GenState X) (step : Step X) (handle : Handle) → IsCounted s → IsGone s handle → Leads s step next
       → IsGone next handle
   gone_step s next (take_in value) handle was gone (inl same) = subst (λ n. IsGone n handle) (sym same) gone
   gone_step s next (take_in value) handle was gone (inr done) =
-      subst (λ n. IsGone n handle) (sym done.1) (record { dead = dead_next s value handle done.0 gone; past = gone.past })
+      subst (λ n. IsGone n handle) (sym done.1) (still_gone_next s value handle done.0 gone)
   gone_step s next (take_out other) handle was gone (inl same) = subst (λ n. IsGone n handle) (sym same.1) gone
   gone_step s next (take_out other) handle was gone (inr done) =
-      subst (λ n. IsGone n handle) (sym done.1)
-      (record { dead = dead_without s other handle gone; past = past_stays handle.generation s.count was.at_most gone.past })
+      subst (λ n. IsGone n handle) (sym done.1) (still_gone_without s other handle was gone)
   gone_step s next (write other value) handle was gone (inl same) = subst (λ n. IsGone n handle) (sym same.1) gone
   gone_step s next (write other value) handle was gone (inr done) =
-      subst (λ n. IsGone n handle) (sym done.1) (record { dead = dead_rewritten s other handle value done.0 gone; past = gone.past })
+      subst (λ n. IsGone n handle) (sym done.1) (still_gone_rewritten s other handle value done.0 gone)
 
   gone_all : (s last : GenState X) (steps : List (Step X)) (handle : Handle) → IsCounted s → IsGone s handle → LeadAll s steps last
       → IsGone last handle

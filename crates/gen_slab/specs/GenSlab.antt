@@ -1,12 +1,13 @@
 -- What a contract sees of a generational slab.
-use Rattle.std.specs.Prelude.{◌≡◌, ℕ, ◌+◌, ◌≤◌, ◌==◌, if◌then◌else◌, List, Option, Some, None, map, min, refl}
+use Rattle.std.specs.Prelude.{◌≡◌, ◌≢◌, ◌⊎◌, ℕ, ◌+◌, ◌<◌, ◌≤◌, ◌==◌, if◌then◌else◌, List, Option, Some, None, map, min, refl}
 use Rattle.std.specs.Ordering.{nat_cmp}
 use Rattle.std.specs.Option.{option_and_then}
-use Rattle.std.specs.FinMap.{FinMap, code, get, insert, remove}
+use Rattle.std.specs.FinMap.{FinMap, code, get, insert, remove, len}
 use Rattle.std.specs.Coded.{Coded, code_by, coded×, coded_ℕ, coded_list}
 use Rattle.wic_slab.specs.Order.{Order, IsOrder, BelongsTo, next_id, take_next, give_back}
 use Rattle.gen_slab.specs.Handle.{Handle}
 use Rattle.gen_slab.specs.declared.slab.Held.{Held}
+use Rattle.gen_slab.specs.declared.slab.TheConstants.{LAST_COUNT}
 
 -- the values under their ids, each with the generation of its handle; the order of further ids; and how many values were
 -- taken out, which is the generation of the next handle
@@ -15,7 +16,7 @@ pub record GenState (T : Type 0) : Type 0 where
   pub order : Order
   pub count : ℕ
 
--- the state, and how many values fit with no request for memory
+-- the state, and how many values fit without an allocation
 pub record GenSlab (T : Type 0) : Type 0 where
   pub state : GenState T
   pub capacity : ℕ
@@ -40,10 +41,10 @@ gen_slab_code {T} value =
 
 -- the last count: at it nothing is handed out any more
 abbrev pub last_count : ℕ
-last_count = 4294967296
+last_count = LAST_COUNT
 
 module _ {T : Type 0} where
-  -- the value that is held, where it was handed out in this generation
+  -- the value that is held, if it was handed out in this generation
   abbrev pub value_in : ℕ → Held T → Option T
   value_in generation held = if held.generation == generation then Some held.value else None
 
@@ -75,7 +76,7 @@ module _ {T : Type 0} where
   rewritten s handle value =
       record s { live = insert s.live handle.id (record { generation = handle.generation; value = value }) }
 
-  -- the live handles with their values, ids rising
+  -- the live handles with their values, in ascending order of the ids
   abbrev pub pairs_of : List (ℕ × Held T) → List (Handle × T)
   pairs_of held = map (λ pair. (record { id = pair.0; generation = pair.1.generation }, pair.1.value)) held
 
@@ -84,8 +85,35 @@ module _ {T : Type 0} where
     pub counted : (id : ℕ) (held : Held T) → get s.live id ≡ Some held → held.generation ≤ s.count
     pub at_most : s.count ≤ last_count
 
-  -- what is true of every state: its order is one, and the order of its live ids, and its generations are within the count
+  -- the invariant of a state: its order is one, and the order of its live ids, and its generations are within the count
   pub record IsGenState (s : GenState T) : Type 0 where
     pub ordered : IsOrder s.order
     pub belongs : BelongsTo s.order s.live
     pub counts : IsCounted s
+
+  -- the handle is dead for good: nothing is found under it, and no later handle has its generation
+  pub record IsGone (s : GenState T) (handle : Handle) : Type 0 where
+    -- nothing is found under the handle
+    pub dead : value_of s handle ≡ None
+    -- its generation is below the count, or no handle is given any more
+    pub past : (handle.generation < s.count) ⊎ (s.count ≡ last_count)
+
+  -- each live handle keeps its value
+  abbrev pub KeepsLive : GenState T → GenState T → Type 0
+  KeepsLive old new = (handle : Handle) (value : T) → value_of old handle ≡ Some value → value_of new handle ≡ Some value
+
+  -- each live handle but this one keeps its value
+  abbrev pub KeepsOthers : Handle → GenState T → GenState T → Type 0
+  KeepsOthers handle old new =
+      (other : Handle) (value : T) → other ≢ handle → value_of old other ≡ Some value → value_of new other ≡ Some value
+
+  -- the invariant holds, and handles that are gone stay gone
+  pub record StaysSound (old new : GenState T) : Type 0 where
+    pub sound : IsGenState new
+    pub gone : (handle : Handle) → IsGone old handle → IsGone new handle
+
+  -- what any write under a live handle leaves: the number of values, the values of the other live handles, the invariant
+  pub record WritesOnly (s : GenState T) (handle : Handle) : Type 0 where
+    pub same_len : (value : T) → len (rewritten s handle value).live ≡ len s.live
+    pub keeps : (value : T) → KeepsOthers handle s (rewritten s handle value)
+    pub stays : (value : T) → StaysSound s (rewritten s handle value)

@@ -1,4 +1,4 @@
--- What a generational slab ends as, where a `&mut` to one of its values is returned.
+-- What a generational slab ends as when a `&mut` to one of its values is returned.
 use Rattle.std.specs.Prelude.{Option}
 use Rattle.std.specs.Borrow.{Lends, LendsIf, Fml, RattleType, MutBor}
 use Rattle.gen_slab.specs.Handle.{Handle}
@@ -14,6 +14,6 @@ module _ (T : RattleType) (s : MutBor (GenSlab T.Denot)) (handle : Handle) where
   abbrev pub lends_value : MutBor T.Denot → Fml
   lends_value r = Lends (the_row T) T s r (with_value s.now handle)
 
-  -- the same where there is a reference, and at `None` the slab stays as it is
+  -- the same if there is a reference; at `None` the slab stays as it is
   abbrev pub lends_get : Option (MutBor T.Denot) → Fml
   lends_get r = LendsIf (the_row T) T s r (with_value s.now handle) s.now

@@ -18,7 +18,7 @@ module _ {T : Type 0} where
     pub order : s.order ≡ from_zero
     pub at_most : s.count ≤ last_count
 
-  -- What a step may lead to. Taking in may be refused, and is where the count is the last. A handle that isn't live changes
+  -- What a step may lead to. Taking in may be refused, and is if the count is the last. A handle that isn't live changes
   -- nothing.
   abbrev pub Leads : GenState T → Step T → GenState T → Type 0
   Leads s (take_in value) next = (next ≡ s) ⊎ ((s.count ≢ last_count) × (next ≡ with_next s value))

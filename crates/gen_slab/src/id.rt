@@ -4,7 +4,7 @@ ghost use Rattle.std.specs.Prelude.{◌≡◌};
 use std::marker::Model;
 use wic_slab::Id;
 
-/// The name of a value in a generational slab: an id, and the generation in which it was handed out. Own.
+/// The name of a value in a generational slab: an id, and the generation in which it was handed out.
 ///
 /// A contract sees both as numbers, and handles are compared and hashed by them.
 #[derive(Clone, Copy, Debug, PartialEq, Eq, PartialOrd, Ord, Hash)]
@@ -26,14 +26,14 @@ impl Model for GenerationalId {
 }
 
 impl GenerationalId {
-    /// The id, which later handles may have too. Own.
+    /// The id, which later handles may have too.
     pub fn id(&self) -> Id
         ensures id { result ≡ self.now.id }
     {
         self.id
     }
 
-    /// How many values had been taken out when it was handed out. Own.
+    /// How many values had been taken out when it was handed out.
     pub fn generation(&self) -> u32
         ensures generation { result ≡ self.now.generation }
     {

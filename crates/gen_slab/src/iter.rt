@@ -1,4 +1,4 @@
-//! The values of a generational slab one by one, ids rising.
+//! The values of a generational slab one by one, in ascending order of the ids.
 ghost use Rattle.std.specs.Prelude.{◌≡◌, length};
 ghost use Rattle.std.specs.Iterator.{YieldsFirstBy, item_count};
 ghost use Rattle.std.specs.FinMap.{entries, len};
@@ -10,8 +10,8 @@ use std::iter::FusedIterator;
 use std::marker::Model;
 use wic_slab::Iter;
 
-/// Gives the live handles of a slab, ids rising, each with its value to be read. A contract sees the pairs that are still to
-/// come. Own.
+/// Gives the live handles of a slab, ids ascending, each with its value to be read. A contract sees the pairs that are still
+/// to come.
 #[derive(Drop)]
 pub struct GenIter<'a, T> {
     held: Iter<'a, Held<T>>,
@@ -31,7 +31,7 @@ impl<'a, T> Model for GenIter<'a, T> {
 }
 
 impl<T> GenerationalSlab<T> {
-    /// The live handles, ids rising, each with its value to be read. It ends. Own.
+    /// The live handles, ids ascending, each with its value to be read. It ends.
     pub fn iter(&self) -> GenIter<'_, T>
         ensures pairs { result ≡ pairs_of (entries self.now.state.live) }
         ensures count { length result ≡ len self.now.state.live }

@@ -1,12 +1,13 @@
 //! A slab whose handles are never found again once their value was taken out.
 ghost use Rattle.std.specs.Prelude.{◌≡◌, ◌+◌, ◌<◌, ◌≤◌, ◌==◌, ◌↔◌, Err, None, Some};
-ghost use Rattle.std.specs.Prelude.{IsOk, IsSome, IfOk, IfSome, IfNone, OnOk, OnErr, option_copied};
+ghost use Rattle.std.specs.Prelude.{IsOk, IsSome, IfOk, IfSome, IfNone, OnOk, OnErr, OnSome, option_copied};
 ghost use Rattle.std.specs.Prelude.{is_some};
 ghost use Rattle.std.specs.Option.{option_copied_mut};
 ghost use Rattle.std.specs.Borrow.{sem};
 ghost use Rattle.std.specs.FinMap.{empty, len};
 ghost use Rattle.wic_slab.specs.Order.{from_zero, max_capacity};
-ghost use Rattle.gen_slab.specs.GenSlab.{IsGenState, last_count, next_handle, value_of, with_next, without};
+ghost use Rattle.gen_slab.specs.GenSlab.{IsGenState, IsGone, KeepsLive, KeepsOthers, StaysSound, WritesOnly};
+ghost use Rattle.gen_slab.specs.GenSlab.{last_count, next_handle, value_of, with_next, without};
 
 use crate::id::GenerationalId;
 use std::alloc::Global;
@@ -18,29 +19,29 @@ use wic_slab::Slab;
 /// The last count of values taken out: at it nothing is handed out any more.
 const LAST_COUNT: u64 = 4294967296;
 
-/// A value with the generation of its handle.
+/// A value with the generation of its handle. Contracts speak of it, and no call takes or returns one.
 #[derive(Drop)]
-pub(crate) struct Held<T> {
-    pub(crate) generation: u32,
-    pub(crate) value: T,
+pub struct Held<T> {
+    pub generation: u32,
+    pub value: T,
 }
 
 // An entry of a number of eight bytes takes no more than twenty-four.
 const _: () = prove!(size_of::<Held<u64>>() <= 16);
 
-/// Why a value wasn't held. Own.
+/// Why a value wasn't held.
 #[derive(Clone, Copy, Debug)]
 pub enum GenRefusal {
     /// As many values were taken out as there are generations.
     Spent,
-    /// There was no memory.
+    /// Out of memory.
     Oom(OutOfMemory),
 }
 
-/// Values, each under a handle that the slab picks and that finds no other value ever after. Own.
+/// Values, each under a handle that the slab picks and that finds no other value ever after.
 ///
 /// A contract sees the state, which is the live ids with their values and generations, the order of further ids and the count
-/// of values that were taken out; and the capacity, how many values fit with no request for memory.
+/// of values that were taken out; and the capacity, how many values fit without an allocation.
 #[derive(Drop)]
 pub struct GenerationalSlab<T> {
     pub(crate) slab: Slab<Held<T>>,
@@ -65,21 +66,23 @@ impl<T> Model for GenerationalSlab<T> {
 impl<T> GenerationalSlab<T> {
     ghost use Rattle.gen_slab.specs.Lends.{lends_get, lends_value};
 
-    /// The empty slab, of count 0. It takes no memory. Own.
+    /// The empty slab, of count 0. It allocates nothing.
     pub fn new(alloc: Global) -> GenerationalSlab<T>
         ensures live { result.state.live ≡ empty }
         ensures order { result.state.order ≡ from_zero }
         ensures count { result.state.count ≡ 0 }
+        ensures capacity { result.capacity ≡ 0 }
     {
         GenerationalSlab::with_count(alloc, 0)
     }
 
-    /// The empty slab, as if `count` values had been taken out, at most 4294967296. It takes no memory. Own.
+    /// The empty slab, as if `count` values had been taken out, at most 4294967296. It allocates nothing.
     pub fn with_count(alloc: Global, count: u64) -> GenerationalSlab<T>
         requires { count ≤ last_count }
         ensures live { result.state.live ≡ empty }
         ensures order { result.state.order ≡ from_zero }
         ensures count { result.state.count ≡ count }
+        ensures capacity { result.capacity ≡ 0 }
     {
         GenerationalSlab {
             slab: Slab::new(alloc),
@@ -87,9 +90,9 @@ impl<T> GenerationalSlab<T> {
         }
     }
 
-    /// Holds `value` under the next id, with the count as its generation, and answers that handle. There must be fewer than
-    /// 4294967294 values. `Spent` comes exactly where the count is 4294967296, before memory is asked for; `Oom` only where as
-    /// many values are held as the capacity. After a refusal all is as before, and `value` is dropped. Own.
+    /// Holds `value` under the next id, with the count as its generation, and returns that handle. There must be fewer than
+    /// 4294967294 values. `Spent` comes exactly if the count is 4294967296, before any allocation; `Oom` only if as
+    /// many values are held as the capacity. After a refusal all is as before, and `value` is dropped.
     pub fn alloc(&mut self, value: T) -> Result<GenerationalId, GenRefusal>
     where
         T: Drop,
@@ -99,10 +102,18 @@ impl<T> GenerationalSlab<T> {
         ensures found { IfOk result (λ handle. value_of self.new.state handle ≡ Some value) }
         ensures one_more { OnOk result (len self.new.state.live ≡ len self.old.state.live + 1) }
         ensures spent { (result ≡ Err GenRefusal.Spent) ↔ (self.old.state.count ≡ last_count) }
-        ensures refused_only_full { OnErr result (self.old.state.count < last_count → len self.old.state.live ≡ self.old.capacity) }
+        ensures refused_only_full { OnErr result
+            (self.old.state.count < last_count → len self.old.state.live ≡ self.old.capacity) }
         ensures refusal_leaves { OnErr result (self.new ≡ self.old) }
         ensures capacity_never_falls { self.old.capacity ≤ self.new.capacity }
+
+        // Other handles: the new one was not live, live ones keep their values, and what is gone stays gone.
+        ensures was_dead { IfOk result (λ handle. value_of self.old.state handle ≡ None) }
+        ensures keeps { KeepsLive self.old.state self.new.state }
+        ensures stays { StaysSound self.old.state self.new.state }
     {
+        // For the proof: the state is sound.
+        let _ = self.len();
         if self.count >= LAST_COUNT {
             return Err(GenRefusal::Spent);
         }
@@ -113,7 +124,7 @@ impl<T> GenerationalSlab<T> {
         }
     }
 
-    /// The value of a handle, or `None` exactly where it isn't live. Own.
+    /// The value of a handle, or `None` exactly if it isn't live.
     pub fn get(&self, handle: GenerationalId) -> Option<&T>
         ensures value { option_copied result ≡ value_of self.now.state handle }
     {
@@ -129,12 +140,15 @@ impl<T> GenerationalSlab<T> {
         }
     }
 
-    /// The value of a handle, to be read and written, or `None` exactly where it isn't live. What is written is the value that
-    /// the handle then has, and all else stays. Own.
+    /// The value of a handle, to be read and written, or `None` exactly if it isn't live. Writes through the reference change
+    /// that value, and all else stays: `written` says so of the number of values and of other handles, whatever is written.
     pub fn get_mut(&mut self, handle: GenerationalId) -> Option<&mut T>
         ensures* writes_back { sem 𝓛 (lends_get T.row self.entry handle result) }
         ensures value { option_copied_mut result ≡ value_of self.old.state handle }
+        ensures written { OnSome result (WritesOnly self.old.state handle) }
     {
+        // For the proof: the state is sound.
+        let _ = self.len();
         if self.contains(handle) {
             Some(self.value_mut(handle))
         } else {
@@ -151,23 +165,31 @@ impl<T> GenerationalSlab<T> {
         &mut self.slab[handle.id].value
     }
 
-    /// Whether the handle is live. Own.
+    /// Whether the handle is live.
     pub fn contains(&self, handle: GenerationalId) -> bool
         ensures live { result ≡ is_some (value_of self.now.state handle) }
     {
         self.get(handle).is_some()
     }
 
-    /// Takes out the value of a handle, whose id is given back; the count rises by one, but not beyond 4294967296. `None` comes
-    /// exactly where the handle isn't live, and then nothing changes. Own.
+    /// Takes out the value of a handle and frees its id; the count rises by one, but not beyond 4294967296. `None` comes
+    /// exactly if the handle isn't live, and then nothing changes. A handle whose value was taken out is gone for good.
     pub fn dealloc(&mut self, handle: GenerationalId) -> Option<T>
         ensures value { result ≡ value_of self.old.state handle }
         ensures taken { IfSome result (λ _. self.new.state ≡ without self.old.state handle) }
-        ensures one_less { IfSome result (λ _. len self.new.state.live + 1 ≡ len self.old.state.live) }
+        ensures one_less { OnSome result
+            (len self.new.state.live + 1 ≡ len self.old.state.live) }
         ensures gone { value_of self.new.state handle ≡ None }
         ensures none_leaves { IfNone result (self.new ≡ self.old) }
         ensures capacity_stays { self.new.capacity ≡ self.old.capacity }
+
+        // Handles: this one is gone, the other live ones keep their values, and what was gone stays gone.
+        ensures gone_for_good { OnSome result (IsGone self.new.state handle) }
+        ensures keeps { KeepsOthers handle self.old.state self.new.state }
+        ensures stays { StaysSound self.old.state self.new.state }
     {
+        // For the proof: the state is sound.
+        let _ = self.len();
         if !self.contains(handle) {
             return None;
         }
@@ -179,26 +201,25 @@ impl<T> GenerationalSlab<T> {
         Some(value)
     }
 
-    /// The number of values. Own.
-    ///
-    /// Its contract also says what is true of every generational slab.
+    /// The number of values. Its contract also states the invariant of a generational slab.
     pub fn len(&self) -> usize
         ensures live { result ≡ len self.now.state.live }
         ensures within { result ≤ self.now.capacity }
         ensures sound { IsGenState self.now.state }
     {
+        // For the proof: the count is within its limit.
         let _ = self.count;
         self.slab.len()
     }
 
-    /// Whether there is no value. Own.
+    /// Whether there is no value.
     pub fn is_empty(&self) -> bool
         ensures empty { result ≡ (len self.now.state.live == 0) }
     {
         self.slab.is_empty()
     }
 
-    /// How many values fit with no request for memory. Own.
+    /// How many values fit without an allocation.
     pub fn capacity(&self) -> usize
         ensures capacity { result ≡ self.now.capacity }
         ensures at_most { result ≤ max_capacity }
@@ -206,7 +227,7 @@ impl<T> GenerationalSlab<T> {
         self.slab.capacity()
     }
 
-    /// How many values were taken out, at most 4294967296. Own.
+    /// How many values were taken out, at most 4294967296.
     pub fn count(&self) -> u64
         ensures count { result ≡ self.now.state.count }
         ensures at_most { result ≤ last_count }

@@ -13,7 +13,7 @@ use Rattle.std.proofs.lemmas.Bool.{cases_eq, cases_Bool, eq-eqb, or_left, or_rig
 use Rattle.std.proofs.lemmas.Bool.Decides.{nat_tests}
 use Rattle.std.proofs.lemmas.List.{take_more, get_or-set_same, get_or-set_other}
 use Rattle.entity_set.specs.Entities.{Entities}
-use Rattle.wic_bitset.specs.Compound.{HasMore}
+use Rattle.wic_base.specs.Sets.{HasMore}
 use Rattle.liveness.proofs.GraphFacts.{block_is}
 use Rattle.liveness.specs.declared.graph.Block.{Block}
 use Rattle.liveness.specs.Graph.{Body, block, defines}

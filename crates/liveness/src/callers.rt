@@ -6,8 +6,7 @@ use crate::{Block, Graph, Var};
 use entity_set::EntityRef;
 use std::alloc::Global;
 use std::sync::ledger::Ledger;
-use wic_base::OutOfMemory;
-use wic_bitset::Steps;
+use wic_base::{OutOfMemory, Steps};
 
 // What a register allocator asks first: may the value of `v` at the start of block `b` still be used?
 pub fn may_be_used<L: Ledger>(

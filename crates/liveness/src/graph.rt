@@ -7,8 +7,7 @@ use entity_set::EntityRef;
 use std::alloc::Global;
 use std::marker::Model;
 use std::sync::ledger::Ledger;
-use wic_base::OutOfMemory;
-use wic_bitset::Steps;
+use wic_base::{OutOfMemory, Steps};
 use wic_vec::TryVec;
 
 /// The most blocks that a graph has.

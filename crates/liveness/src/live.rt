@@ -10,8 +10,7 @@ use crate::graph::{Block, BlockBody, Graph, Op, Var};
 use entity_set::EntitySet;
 use std::alloc::Global;
 use std::sync::ledger::Ledger;
-use wic_base::OutOfMemory;
-use wic_bitset::Steps;
+use wic_base::{OutOfMemory, Steps};
 use wic_vec::TryVec;
 
 /// What is known so far of each block: the variables that it defines, and those that were found live at it.

@@ -9,8 +9,7 @@ use std::marker::Brand;
 use std::process::Abort;
 use std::sync::ledger::{Blank, Ledger};
 use std::test::Fail;
-use wic_base::OutOfMemory;
-use wic_bitset::Steps;
+use wic_base::{OutOfMemory, Steps};
 use wic_vec::TryVec;
 
 // The live variables, counted in a new ledger.

@@ -1,3 +1,4 @@
--- The text of want of memory, and what a guard lends.
+-- The text of out of memory, what a guard lends, and what is said of sets.
 pub mod Lends
 pub mod OutOfMemory
+pub mod Sets

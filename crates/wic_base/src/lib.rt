@@ -45,10 +45,12 @@
 mod callers;
 mod non_max;
 mod oom;
+mod steps;
 mod truncate;
 mod undo;
 
 pub use non_max::{NonMax, NonMaxNumber, NonMaxU8, NonMaxU16, NonMaxU32, NonMaxU64, NonMaxUsize};
 pub use oom::{GREATEST_SIZE, OutOfMemory};
+pub use steps::Steps;
 pub use truncate::{truncate_i32_to_i8, truncate_i32_to_i16};
 pub use undo::Undo;

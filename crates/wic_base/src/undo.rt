@@ -11,17 +11,7 @@ ghost use Rattle.std.specs.Borrow.{sem};
 /// A contract sees the held value, `inner`, and the function, `undo`. A port of `wasmtime_internal_core::undo::Undo`, which
 /// rolls back where it is dropped.
 ///
-/// A counter that is put back where one of its steps is refused (`callers::inc_n` is the same function, proved):
-///
-/// ```
-/// let mut guard = Undo::new(counter, |counter: Counter| counter.stepped_back());
-/// for _ in 0..n {
-///     if !guard.get_mut().step() {
-///         return Err(Undo::roll_back(guard));
-///     }
-/// }
-/// Ok(Undo::commit(guard))
-/// ```
+/// A counter that is put back when one of its steps is refused: `inc_n` in `src/callers.rt`, proved from these contracts.
 pub struct Undo<T, F, R>
 where
     F: FnOnce(T) -> R,

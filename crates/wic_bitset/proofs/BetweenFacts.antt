@@ -14,15 +14,10 @@ use Rattle.std.proofs.lemmas.List.FromFn.{length-range_with_len, get_or-range_wi
 use Rattle.std.proofs.lemmas.List.Kept.{IsStrictlyIncreasing-filter}
 use Rattle.wic_bitset.specs.Rising.{members_between, word_members}
 use Rattle.wic_bitset.proofs.DivisionFacts.{next_start}
-use Rattle.wic_scalar.proofs.SetFacts.{contains-filter_range}
+use Rattle.wic_base.proofs.RangeFacts.{filter_none_in, range_append}
+use Rattle.wic_base.proofs.SetFacts.{contains-filter_range}
 
 -- ---- a range that a test filters
-
--- a test that fails on the range keeps nothing
-filter_none : (p : ℕ → Bool) (a n : ℕ) → ((i : ℕ) → a ≤ i → i < a + n → p i ≡ false) → filter p (range_with_len a n) ≡ []
-filter_none p a zero none = refl
-filter_none p a (suc n) none =
-    rw (none a (omega arith) (omega arith)) (filter_none p (a + 1) n (λ i low high. none i (omega arith) (omega arith)))
 
 -- moved up
 pub filter_shift : (p q : ℕ → Bool) (a b n : ℕ) → ((j : ℕ) → b ≤ j → j < b + n → p j ≡ q (a + j))
@@ -38,18 +33,11 @@ filter_shift p q a b (suc n) same =
     (λ none. let moved : q (a + b) ≡ false = sym here ∙ none in rw (none, moved) rest)
     (cases_Bool (p b))
 
-range_append : (a m n : ℕ) → range_with_len a (m + n) ≡ range_with_len a m ++ range_with_len (a + m) n
-range_append a zero n = rw (zero-add, add-zero) refl
-range_append a (suc m) n =
-    let e : suc m + n ≡ suc (m + n) = omega arith in
-    let f : a + 1 + m ≡ a + suc m = omega arith in
-    rw e (ap (λ xs. a ∷ xs) (range_append (a + 1) m n ∙ ap (λ b. range_with_len (a + 1) m ++ range_with_len b n) f))
-
 -- ---- the members between two places
 
 -- where there is none
 pub between-none : (s : FinSet nat_cmp) (a b : ℕ) → ((i : ℕ) → a ≤ i → i < b → contains s i ≡ false) → members_between s a b ≡ []
-between-none s a b none = filter_none (contains s) a (b - a) (λ i low high. none i low (omega arith))
+between-none s a b none = filter_none_in (contains s) a (b - a) (λ i low high. none i low (omega arith))
 
 -- up to a place, and from there on
 pub between-split : (s : FinSet nat_cmp) (a b c : ℕ) → a ≤ b → b ≤ c

@@ -18,8 +18,8 @@ use Rattle.wic_bitset.specs.Words.{IsWordOf, IsWordEmpty}
 use Rattle.wic_bitset.proofs.BetweenFacts.{between-none, between-last, between-last_word, filter_shift}
 use Rattle.wic_bitset.proofs.DivisionFacts.{next_start}
 use Rattle.wic_bitset.proofs.RisingFacts.{below_top, between-rising}
-use Rattle.wic_scalar.proofs.SetFacts.{empty_of_none, same_by_absence, there_after_insert, same_after_insert, len-insert-le}
-use Rattle.wic_scalar.proofs.MemberLemmas.{contains_below}
+use Rattle.wic_base.proofs.SetFacts.{empty_of_none, same_by_absence, there_after_insert, same_after_insert, len-insert-le}
+use Rattle.wic_scalar.proofs.MemberFacts.{contains_below}
 
 -- the digits of word k give the members in it
 pub map-members_of : (w : ℕ) (s : FinSet nat_cmp) (k n : ℕ) → IsWordOf w s k n

@@ -15,19 +15,19 @@ use Rattle.std.proofs.lemmas.List.{map-set}
 use Rattle.std.proofs.lemmas.Nat.{div_below, div-mul-add, mod-mul-add, mod_below}
 use Rattle.wic_scalar.specs.Digits.{is_one}
 use Rattle.wic_scalar.specs.Scalar.{set_of}
-use Rattle.wic_scalar.proofs.MemberLemmas.{contains_below, none_from_empty, same_from_sets}
-use Rattle.wic_scalar.proofs.SetLemmas.{set_of-none, set_of-same}
+use Rattle.wic_scalar.proofs.MemberFacts.{contains_below, none_from_empty, same_from_sets}
+use Rattle.wic_scalar.proofs.CallFacts.{set_of-none, set_of-same}
 use Rattle.wic_bitset.specs.Combination.{combined, TellsChange, CombinesWord, CombinesBelow, CombinesToNone, LeavesFrom}
 use Rattle.wic_bitset.specs.Combination.{MarksBelow}
-use Rattle.wic_bitset.specs.Compound.{HasMore}
-use Rattle.wic_scalar.specs.Extremes.{IsGreatest}
+use Rattle.wic_base.specs.Sets.{HasMore}
+use Rattle.wic_base.specs.Sets.{IsGreatest}
 use Rattle.wic_bitset.specs.Summary.{Summarizes}
 use Rattle.wic_bitset.specs.Words.{Words, EndsBefore, IsWordOf, IsWordEmpty, set_of_words}
 use Rattle.wic_bitset.specs.declared.combination.Combination.{Combination}
 use Rattle.wic_bitset.specs.declared.combination.Combination.TheVariants.{Union, Intersection, Difference}
 use Rattle.wic_bitset.proofs.DivisionFacts.{div_mono}
-use Rattle.wic_scalar.proofs.SetFacts.{there_after_insert, same_after_insert, gone_after_remove, same_after_remove, empty_of_none}
-use Rattle.wic_scalar.proofs.SetFacts.{none_in_empty}
+use Rattle.wic_base.proofs.SetFacts.{there_after_insert, same_after_insert, gone_after_remove, same_after_remove, empty_of_none}
+use Rattle.wic_base.proofs.SetFacts.{none_in_empty}
 use Rattle.wic_bitset.proofs.WordFacts.{here_now, elsewhere, below_length, in_word, by_digit}
 
 -- two sets with the same members are one
@@ -317,6 +317,18 @@ change_is_less s r true all change = (λ _. less (contains s change.0) refl, λ 
     less false has = absurd (let yes = all change.0 (change.1 ∙ ap not has) in cc)
 change_is_less s r false all same =
     (λ no. absurd (cc), λ found. absurd (let now = ap (λ x. contains x found.0) same ∙ found.1.1 in let was = found.1.0 in cc))
+
+-- false exactly if the set is as before
+pub tells_same : (s t : FinSet nat_cmp) (r : Bool) → TellsChange r s t → (r ≡ false) ↔ (t ≡ s)
+tells_same s t true change = (
+  λ no. absurd (cc),
+  λ same. absurd (let now = ap (λ u. contains u change.0) same in let other = change.1 in not_itself (contains s change.0) (sym now ∙ other)),
+)
+  where
+    not_itself : (b : Bool) → b ≡ not b → ⊥
+    not_itself true same = absurd (cc)
+    not_itself false same = absurd (cc)
+tells_same s t false same = (λ _. same, λ _. refl)
 
 -- the greatest member is one number
 pub greatest_is_one : (s : FinSet nat_cmp) (x y : ℕ) → IsGreatest s x → IsGreatest s y → x ≡ y

@@ -1,25 +1,31 @@
 -- The greatest member, where a number is put in or taken out, and from one word to the next.
-use Rattle.std.proofs.Common.{⊎_elim, ◌≡◌, ◌≢◌, ℕ, ◌+◌, ◌/◌, ◌<◌, ◌≤◌, true, false, max, Bool, not, Option, Some, None, is_some}
+use Rattle.std.proofs.Common.{⊎_elim, ◌≡◌, ◌≢◌, ℕ, ◌+◌, ◌*◌, ◌/◌, ◌<◌, ◌≤◌, true, false, max, Bool, not, Option, Some, None, is_some}
 use Rattle.std.proofs.Common.{IsNone, IsTrue, refl, ◌↔◌, sym, ap, subst, ◌∙◌, arith}
-use Rattle.std.specs.Prelude.{nat_eq}
+use Rattle.std.specs.Prelude.{nat_eq, IfSome}
+use Rattle.std.proofs.Math.Nat.{div-lt_iff_lt-mul}
 use Rattle.std.specs.Option.{option_eq}
 use Rattle.std.specs.Ordering.{nat_cmp}
 use Rattle.std.specs.FinSet.{FinSet, empty, contains, insert, remove}
 use Rattle.std.proofs.lemmas.Bool.{cases_eq, cases_lt, false_from_ne_true}
 use Rattle.std.proofs.lemmas.Bool.Decides.{nat_tests}
 use Rattle.wic_bitset.specs.Greatest.{IsMax}
-use Rattle.wic_scalar.specs.Extremes.{IsGreatest}
+use Rattle.wic_base.specs.Sets.{IsGreatest}
 use Rattle.wic_bitset.specs.Words.{EndsBefore, IsGreatestOfWord, IsWordEmpty}
 use Rattle.wic_bitset.proofs.DivisionFacts.{div_mono}
-use Rattle.wic_scalar.proofs.SetFacts.{empty_of_none, none_in_empty, remove_absent, there_after_insert, same_after_insert}
-use Rattle.wic_scalar.proofs.SetFacts.{same_after_remove, was_before_remove}
+use Rattle.wic_base.proofs.SetFacts.{empty_of_none, none_in_empty, remove_absent, there_after_insert, same_after_insert}
+use Rattle.wic_base.proofs.SetFacts.{same_after_remove, was_before_remove}
 
 -- there is a greatest member, or the set is empty
 pub max-none : (s : FinSet nat_cmp) (r : Option ℕ) → IsMax s r → IsNone r ↔ (s ≡ empty)
 max-none s None none = (λ _. none, λ _. refl)
 max-none s (Some x) last = (λ no. absurd (cc), λ none. absurd (let no = none_in_empty s none x in let yes = last.member in cc))
 
--- the same, by a test that is true where there is none
+-- it stands in one of the words
+pub max-below : (w count : ℕ) (s : FinSet nat_cmp) (r : Option ℕ) → 0 < w → EndsBefore w s count → IsMax s r → IfSome r (λ x. x < count * w)
+max-below w count s None some ends none = tt
+max-below w count s (Some x) some ends last = (div-lt_iff_lt-mul some).0 (ends x last.member)
+
+-- the same, by a test that is true if there is none
 pub max-none_test : (s : FinSet nat_cmp) (r : Option ℕ) (b : Bool) → IsMax s r → is_some r ≡ not b → IsTrue b ↔ (s ≡ empty)
 max-none_test s None true none test = (λ _. none, λ _. refl)
 max-none_test s None false none test = absurd (cc)

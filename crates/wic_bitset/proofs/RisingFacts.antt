@@ -2,18 +2,21 @@
 use Rattle.std.proofs.Common.{⊎_elim, ◌≡◌, ℕ, ◌+◌, ◌-◌, ◌<◌, ◌≤◌, Bool, true, List, [], ◌∷◌, ◌++◌, length, length-append, sym, ap, ◌∙◌}
 use Rattle.std.proofs.Common.{arith, max}
 use Rattle.std.proofs.Common.{append-nil, IsTrue, ◌↔◌}
-use Rattle.std.specs.Prelude.{nat_eq, All}
-use Rattle.std.specs.List.{list_any}
+use Rattle.std.specs.Prelude.{nat_eq, All, Option, Some, None}
+use Rattle.std.specs.List.{last_or, list_any}
 use Rattle.std.specs.List.Sorted.{IsStrictlyIncreasing}
 use Rattle.std.specs.Ordering.{nat_cmp, eq_by_cmp}
 use Rattle.std.specs.Cmp.{unsigned_tied}
 use Rattle.std.specs.Cmp.Lexicographic.{pointwise, bytes_decides}
-use Rattle.std.specs.FinSet.{FinSet, contains, items, from_list, len, contains-items}
+use Rattle.std.specs.FinSet.{FinSet, contains, empty, items, from_list, len, contains-items}
 use Rattle.std.proofs.lemmas.Bool.{cases_eq, false_from_ne_true}
-use Rattle.std.proofs.lemmas.Bool.Decides.{nat_tests}
+use Rattle.std.proofs.lemmas.Bool.Decides.{nat_tests, same_from_decides}
+use Rattle.wic_bitset.specs.Greatest.{IsMax}
 use Rattle.wic_bitset.specs.Rising.{members_between, rising, greatest_of}
 use Rattle.wic_bitset.proofs.BetweenFacts.{between-none, between-split, from_list-between, IsStrictlyIncreasing-between, All-between}
-use Rattle.wic_scalar.proofs.SetFacts.{count_in, at_most_in}
+use Rattle.wic_base.specs.Sets.{IsGreatest, ListsMembers}
+use Rattle.wic_base.proofs.RangeFacts.{last_of_filter}
+use Rattle.wic_base.proofs.SetFacts.{count_in, at_most_in, lists_members, none_in_empty}
 
 le-greatest_of : (xs : List ℕ) (q : ℕ) → list_any (eq_by_cmp nat_cmp q) xs ≡ true → q ≤ greatest_of xs
 le-greatest_of [] q has = absurd (cc)
@@ -58,12 +61,12 @@ pub length-rising : (s : FinSet nat_cmp) → length (rising s) ≡ len s
 unfolding rising
 length-rising s = sym (count_in (contains s) 0 (greatest_of (items s) + 1 - 0)) ∙ ap len (from_list-rising s)
 
--- equal lists belong to equal sets
-pub same_set_from_rising : (s t : FinSet nat_cmp) (r : Bool) → r ≡ pointwise nat_eq (rising s) (rising t) → IsTrue r ↔ (s ≡ t)
-same_set_from_rising s t r is = (
-  λ same. sym (from_list-rising s) ∙ ap from_list ((bytes_decides (rising s) (rising t)).0 (sym is ∙ same)) ∙ from_list-rising t,
-  λ same. is ∙ (bytes_decides (rising s) (rising t)).1 (ap rising same),
-)
+-- the test of two sets is that of their lists
+pub rising_from_same : (s t : FinSet nat_cmp) (r : Bool) → (IsTrue r ↔ (s ≡ t)) → r ≡ pointwise nat_eq (rising s) (rising t)
+rising_from_same s t r test = same_from_decides r (pointwise nat_eq (rising s) (rising t)) (
+  λ yes. ap rising (test.0 yes),
+  λ same. test.1 (sym (from_list-rising s) ∙ ap from_list same ∙ from_list-rising t),
+) (bytes_decides (rising s) (rising t))
 
 -- there are no more members than numbers below a place that is above them all
 pub length-rising-le : (s : FinSet nat_cmp) (end : ℕ) → ((i : ℕ) → contains s i ≡ true → i < end) → length (rising s) ≤ end
@@ -83,3 +86,25 @@ length-between-le s n =
 pub All-rising : (P : ℕ → Type 0) (s : FinSet nat_cmp) → ((i : ℕ) → contains s i ≡ true → P i) → All P (rising s)
 unfolding rising
 All-rising P s each = All-between P s 0 (greatest_of (items s) + 1) each
+
+-- the list has each member once
+pub lists-rising : (s : FinSet nat_cmp) → ListsMembers (rising s) s
+lists-rising s = lists_members (rising s) s (from_list-rising s) (IsStrictlyIncreasing-rising s) (length-rising s)
+
+-- the greatest member is the last of the list
+pub last-rising : (s : FinSet nat_cmp) (x : ℕ) → IsGreatest s x → last_or None (rising s) ≡ Some x
+unfolding rising
+last-rising s x greatest =
+    let top = greatest_of (items s) + 1 in
+    last_of_filter (contains s) x 0 (top - 0) (omega arith) (let h = below_top s x greatest.member in omega arith) greatest.member
+    (λ i after _. false_from_ne_true (contains s i) (λ has. absurd (let h = greatest.greatest i has in omega arith)))
+
+-- the empty set has the empty list
+pub rising-empty : (s : FinSet nat_cmp) → s ≡ empty → rising s ≡ []
+unfolding rising
+rising-empty s none = between-none s 0 (greatest_of (items s) + 1) (λ i _ _. none_in_empty s none i)
+
+-- so the last of the list is the maximum
+pub max-last : (s : FinSet nat_cmp) (r : Option ℕ) → IsMax s r → r ≡ last_or None (rising s)
+max-last s None none = sym (ap (last_or None) (rising-empty s none))
+max-last s (Some x) last = sym (last-rising s x last)

@@ -9,15 +9,16 @@ use Rattle.std.specs.Prelude.{All}
 use Rattle.wic_bitset.specs.Rising.{rising, word_members}
 use Rattle.wic_bitset.proofs.BetweenFacts.{All-between}
 use Rattle.wic_bitset.proofs.RisingFacts.{All-rising}
+use Rattle.wic_bitset.specs.Compound.{Compound}
 use Rattle.wic_bitset.specs.Greatest.{IsMax}
-use Rattle.wic_scalar.specs.Extremes.{IsGreatest}
+use Rattle.wic_base.specs.Sets.{IsGreatest}
 use Rattle.wic_bitset.specs.Words.{Words, most_words, EndsBefore, IsMaxOfWord, IsWordEmpty}
 use Rattle.wic_bitset.specs.Summary.{Summarizes, block_words, filled_words}
 use Rattle.wic_bitset.proofs.ByWordFacts.{filled_words-empty}
-use Rattle.wic_bitset.proofs.DivisionFacts.{below_div_ceil, div_ceil-reaches}
+use Rattle.wic_bitset.proofs.DivisionFacts.{below_div_ceil, div_ceil-mono, div_ceil-reaches}
 use Rattle.wic_bitset.proofs.GreatestFacts.{greatest_of_last_word}
-use Rattle.wic_scalar.proofs.SetFacts.{empty_of_none, none_in_empty, there_after_insert, same_after_insert, gone_after_remove}
-use Rattle.wic_scalar.proofs.SetFacts.{same_after_remove, same_by_absence, was_before_remove}
+use Rattle.wic_base.proofs.SetFacts.{empty_of_none, none_in_empty, there_after_insert, same_after_insert, gone_after_remove}
+use Rattle.wic_base.proofs.SetFacts.{same_after_remove, same_by_absence, was_before_remove}
 
 -- other words are as empty as before
 other_word : (w i k : ℕ) (s t : FinSet nat_cmp) → ((q : ℕ) → q ≢ i → contains t q ≡ contains s q) → k ≢ i / w
@@ -137,6 +138,24 @@ module _ (w : ℕ) (words summary : Words) (sum : Summarizes w words summary) wh
   pub summary_ends : 0 < w → (n : ℕ) → EndsBefore w words.members n → EndsBefore w summary.members (div_ceil n w)
   summary_ends some n ends k has = below_div_ceil w k n some (below_end n ends k has)
 
+  -- the summary's words up to that of the last word in use are there, and have all words that have a member
+  pub in_use_blocks : 0 < w → (v : Compound) → record { members = words.members; words = words.count } ≡ v → (n blocks width : ℕ)
+      → n ≤ v.words → EndsBefore w v.members n → width ≡ w → blocks ≡ div_ceil n width
+      → (blocks ≤ summary.count) × EndsBefore w summary.members blocks
+  in_use_blocks some v view n blocks width within ends same is =
+      let end : blocks ≡ div_ceil n w = is ∙ ap (div_ceil n) same in
+      let few : n ≤ words.count = subst (λ u. n ≤ u.words) (sym view) within in (
+        omega (arith, end, sum.size, div_ceil-mono w n words.count some few),
+        subst (EndsBefore w summary.members) (sym end) (summary_ends some n (subst (λ u. EndsBefore w u.members n) (sym view) ends)),
+      )
+
+  -- the word of a member is in the summary
+  pub filled : (i : ℕ) → contains words.members i ≡ true → contains summary.members (i / w) ≡ true
+  filled i there = ⊎_elim
+      (λ yes. yes)
+      (λ no. absurd (let none = (sum.digits (i / w)).0 no i refl in cc))
+      (cases_Bool (contains summary.members (i / w)))
+
   -- the greatest member stands in the greatest word that the summary has
   pub max_through_summary : 0 < w → (k : ℕ) (r : Option ℕ) → IsGreatest summary.members k → IsMaxOfWord w words.members k r
       → IsMax words.members r
@@ -149,12 +168,6 @@ module _ (w : ℕ) (words summary : Words) (sum : Summarizes w words summary) wh
       let le = last.greatest (i / w) yes in
       omega arith))
       (cases_lt (i / w) (k + 1))) found
-    where
-      filled : (i : ℕ) → contains words.members i ≡ true → contains summary.members (i / w) ≡ true
-      filled i there = ⊎_elim
-          (λ yes. yes)
-          (λ no. absurd (let none = (sum.digits (i / w)).0 no i refl in cc))
-          (cases_Bool (contains summary.members (i / w)))
 
   -- there is no member where the summary is empty
   pub none_through_summary : summary.members ≡ empty → words.members ≡ empty

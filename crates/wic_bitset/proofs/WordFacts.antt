@@ -12,14 +12,14 @@ use Rattle.std.proofs.lemmas.Bool.Decides.{nat_tests}
 use Rattle.std.proofs.lemmas.List.{length-map, map-append, get_or_at, get_or_append_left, get_or-set_same, get_or-set_other, map-set}
 use Rattle.std.proofs.lemmas.Nat.{div_below, mod_below, le-div, div-mul-add, mod-mul-add, div-add-mod'}
 use Rattle.wic_scalar.specs.Digits.{is_one}
-use Rattle.wic_scalar.specs.Extremes.{IsGreatest}
+use Rattle.wic_base.specs.Sets.{IsGreatest}
 use Rattle.wic_scalar.specs.Scalar.{set_of}
-use Rattle.wic_scalar.proofs.DigitLemmas.{is_one-zero}
-use Rattle.wic_scalar.proofs.MemberLemmas.{contains_below, none_from_empty}
-use Rattle.wic_scalar.proofs.SetLemmas.{set_of-none}
-use Rattle.wic_scalar.proofs.SetFacts.{contains-filter_range, empty_of_none, there_after_insert, same_after_insert, gone_after_remove}
-use Rattle.wic_scalar.proofs.SetFacts.{none_in_empty, same_after_remove}
-use Rattle.wic_bitset.specs.Words.{has, set_of_words, AreFirstWords, EndsBefore, IsGreatestOfWord, IsWordOf, IsWordEmpty}
+use Rattle.wic_scalar.proofs.DigitFacts.{is_one-zero}
+use Rattle.wic_scalar.proofs.MemberFacts.{contains_below, none_from_empty}
+use Rattle.wic_scalar.proofs.CallFacts.{set_of-none}
+use Rattle.wic_base.proofs.SetFacts.{contains-filter_range, empty_of_none, there_after_insert, same_after_insert, gone_after_remove}
+use Rattle.wic_base.proofs.SetFacts.{none_in_empty, same_after_remove}
+use Rattle.wic_bitset.specs.Words.{has, set_of_words, AreFirstWords, EmptiesWord, EndsBefore, IsGreatestOfWord, IsWordOf, IsWordEmpty}
 
 -- ---- the compound set
 
@@ -192,6 +192,19 @@ module _ {X : Type 0} (f : X → ℕ) where
       let some : 0 < w = omega arith in
       contains_below w n j low ∙ none_from_empty w n j clear low
       ∙ sym (no_word_is_empty w k items some none (k * w + j) (div-mul-add k w j low))
+
+  -- word k becomes a word without members
+  pub empties_word : (w k : ℕ) (items : List X) (y : X) → 0 < w → k < length items → set_of w (f y) ≡ empty
+      → EmptiesWord w k (set_of_words w (map f items)) (set_of_words w (map f (set items k y)))
+  empties_word w k items y some within none =
+      let long : length (map f items) ≡ length items = length-map items f in
+      let inside : k < length (map f items) = omega arith in
+      let changed = map-set f items k y in record {
+        here = λ i at. ap (λ ns. contains (set_of_words w ns) i) changed ∙ here_now w (map f items) k (f y) some inside i at
+            ∙ none_in_empty (set_of w (f y)) none (i % w);
+        elsewhere = λ i apart. ap (λ ns. contains (set_of_words w ns) i) changed
+            ∙ elsewhere w (map f items) k (f y) some inside i apart;
+      }
 
   -- a member stands below the count of words times the width
   pub within_words : (w i : ℕ) (items : List X) → 0 < w → contains (set_of_words w (map f items)) i ≡ true → i < length items * w

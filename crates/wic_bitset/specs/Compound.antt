@@ -1,7 +1,7 @@
 -- What a contract sees of a compound set.
-use Rattle.std.specs.Prelude.{◌≡◌, ℕ, ◌*◌, ◌<◌, ◌≤◌, true, false, refl}
+use Rattle.std.specs.Prelude.{◌≡◌, ℕ, ◌*◌, refl}
 use Rattle.std.specs.Ordering.{nat_cmp}
-use Rattle.std.specs.FinSet.{FinSet, code, contains}
+use Rattle.std.specs.FinSet.{FinSet, code}
 use Rattle.std.specs.Coded.{Coded, code_by, coded×, coded_ℕ}
 
 -- the members, and how many words the set has
@@ -18,15 +18,3 @@ compound_code =
 -- the capacity, where each word has so many places: the numbers below it need no further word
 abbrev pub capacity_of : ℕ → Compound → ℕ
 capacity_of width set = set.words * width
-
--- t has a member that s lacks
-abbrev pub HasMore : FinSet nat_cmp → FinSet nat_cmp → Type 0
-HasMore s t = (i : ℕ) × ((contains s i ≡ false) × (contains t i ≡ true))
-
--- each member is below n
-abbrev pub AllBelow : ℕ → FinSet nat_cmp → Type 0
-AllBelow n s = (i : ℕ) → contains s i ≡ true → i < n
-
--- there is a member that isn't below n
-abbrev pub HasFrom : ℕ → FinSet nat_cmp → Type 0
-HasFrom n s = (i : ℕ) × ((contains s i ≡ true) × (n ≤ i))

@@ -20,6 +20,10 @@ pub record Summarizes (w : ℕ) (words summary : Words) : Type 0 where
 abbrev pub filled_words : ℕ → FinSet nat_cmp → FinSet nat_cmp
 filled_words w s = from_list (map (λ i. i / w) (items s))
 
+-- s and t have the same members in each word that has a member of s
+abbrev pub SameInFilledWords : ℕ → FinSet nat_cmp → FinSet nat_cmp → Type 0
+SameInFilledWords w s t = (i : ℕ) → contains (filled_words w s) (i / w) ≡ true → contains s i ≡ contains t i
+
 -- the words that have a member, rising, of those whose digits stand in word k of the summary
 abbrev pub block_words : ℕ → FinSet nat_cmp → ℕ → List ℕ
 block_words w s k = word_members w (filled_words w s) k

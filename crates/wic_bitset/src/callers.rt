@@ -1,16 +1,16 @@
 //! Callers of a set, proved from its contracts alone.
-ghost use Rattle.std.specs.Prelude.{◌≡◌, ◌+◌, ◌<◌, ◌≤◌};
+ghost use Rattle.std.specs.Prelude.{◌≡◌, ◌+◌, ◌<◌, ◌≤◌, false, IfOk, IfSome};
 ghost use Rattle.std.specs.FinSet as fin_set;
 ghost use Rattle.wic_bitset.specs.Compound.{capacity_of};
 
-use crate::{CompoundBitSet, Steps};
+use crate::{CompoundBitSet, law_members};
 use std::alloc::Global;
 use std::sync::ledger::Ledger;
-use wic_base::OutOfMemory;
+use wic_base::{OutOfMemory, Steps};
 use wic_scalar::ScalarBitSetStorage;
 use wic_vec::TryVec;
 
-// One number gives way to another. Below the capacity no memory is wanted, so nothing can be refused.
+// Puts one number in the place of another. Below the capacity nothing is allocated, so nothing is refused.
 pub fn give_way<T: ScalarBitSetStorage>(set: &mut CompoundBitSet<T>, from: usize, to: usize)
     requires within { to < capacity_of T.width set.old }
     requires number { to ≤ 4294967295 }
@@ -21,17 +21,51 @@ pub fn give_way<T: ScalarBitSetStorage>(set: &mut CompoundBitSet<T>, from: usize
     set.insert(to).unwrap();
 }
 
-// A member is taken out for a while: afterwards the set is as before.
+// Takes a member out for a while: afterwards the set is as before.
 pub fn leave_for_a_while<T: ScalarBitSetStorage>(set: &mut CompoundBitSet<T>, i: usize)
     ensures { set.new ≡ set.old }
 {
-    if set.contains(i) {
-        set.remove(i);
+    if set.remove(i) {
         set.insert(i).unwrap();
     }
 }
 
-// Two members far apart: of 156251 words, 2 are looked at, and the 2442 words of the summary.
+// Puts the greatest member of one set into another: each member is a number that a set can hold.
+pub fn put_greatest<S: ScalarBitSetStorage, T: ScalarBitSetStorage>(
+    from: &CompoundBitSet<S>,
+    to: &mut CompoundBitSet<T>,
+) -> Result<Option<usize>, OutOfMemory>
+    ensures { IfOk result (λ put. IfSome put (λ x.
+        to.new.members ≡ fin_set.insert to.old.members x)) }
+{
+    match from.max() {
+        Some(greatest) => {
+            to.insert(greatest)?;
+            Ok(Some(greatest))
+        },
+        None => Ok(None),
+    }
+}
+
+// Takes out what isn't allowed, and returns whether there was anything: if not, the set is as before.
+pub fn restrict<T: ScalarBitSetStorage>(
+    set: &mut CompoundBitSet<T>,
+    allowed: &CompoundBitSet<T>,
+) -> bool
+    ensures { result ≡ false → set.new.members ≡ set.old.members }
+{
+    set.intersect_with(allowed)
+}
+
+// A walk gives as many members as the set has.
+pub fn walked_count<T: ScalarBitSetStorage>(set: &CompoundBitSet<T>) -> usize
+    ensures { result ≡ fin_set.len set.now.members }
+{
+    law_members();
+    set.iter().count()
+}
+
+// Two members far apart: of 156251 words, 2 are read, and the 2442 words of the summary.
 pub fn far_apart<L: Ledger>(
     alloc: Global,
     steps: &mut Steps<L>,
@@ -44,7 +78,7 @@ pub fn far_apart<L: Ledger>(
     set.members(alloc, steps)
 }
 
-// A set that was emptied: the one word of its summary is looked at, and no other.
+// A set that was emptied: the one word of its summary is read, and no other.
 pub fn emptied<L: Ledger>(alloc: Global, steps: &mut Steps<L>) -> Result<TryVec<usize>, OutOfMemory>
     ensures { steps.new ≤ steps.old + 1 }
 {

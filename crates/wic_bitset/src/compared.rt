@@ -11,31 +11,19 @@ use std::fmt;
 use std::hash::{Hash, Hasher};
 use wic_scalar::ScalarBitSetStorage;
 
-/// Two sets are equal exactly where they have the same members, whatever room they have.
-///
-/// A port of the derived `PartialEq`, which compares the words and the cached maximum.
+/// Two sets are equal exactly if they have the same members, whatever room they have. It compares the summary words up to that of
+/// the greatest member, and then each word that has a member. The original compares all words, also those beyond.
 impl<T: ScalarBitSetStorage> PartialEq for CompoundBitSet<T> {
     ghost eq = { λ s t. pointwise nat_eq (rising s.members) (rising t.members) };
 
     ghost laws = { on_per (λ s. rising s.members) (partial_equiv_from_equiv nat_list_eq_equiv) };
 
     fn eq(&self, other: &CompoundBitSet<T>) -> bool
-        ensures value { result ≡ pointwise nat_eq (rising self.now.members) (rising other.now.members) }
+        ensures value { result
+            ≡ pointwise nat_eq (rising self.now.members) (rising other.now.members) }
         ensures members { IsTrue result ↔ (self.now.members ≡ other.now.members) }
     {
-        let mut left = self.iter();
-        let mut right = other.iter();
-        while let Some(x) = left.next() {
-            match right.next() {
-                Some(y) => {
-                    if x != y {
-                        return false;
-                    }
-                },
-                None => return false,
-            }
-        }
-        right.next().is_none()
+        self.has_same_members(other)
     }
 }
 
@@ -43,9 +31,8 @@ impl<T: ScalarBitSetStorage> Eq for CompoundBitSet<T> {
     ghost laws = { on_equiv (λ s. rising s.members) nat_list_eq_equiv };
 }
 
-/// The number of the members, and then each of them, rising, each as a `usize`: sets that are equal hash alike.
-///
-/// This project's own.
+/// The number of members, and then each of them, ascending, each as a `usize`: sets that are equal hash alike. It reads the words
+/// that have a member twice, and visits each member.
 impl<T: ScalarBitSetStorage> Hash for CompoundBitSet<T> {
     ghost hash_input = { λ s. fed.slice fed.usize (rising s.members) };
 

@@ -1,13 +1,14 @@
 //! The compound set.
 ghost use Rattle.std.specs.Prelude.{◌≡◌, ◌+◌, ◌*◌, ◌/◌, ◌<◌, ◌≤◌, ◌↔◌, ◌++◌, ℕ, not, true, length, map};
-ghost use Rattle.std.specs.Prelude.{IsTrue, IsOk, OnOk, OnErr, IsNone, IfSome, IfNone, IfOk, Some};
+ghost use Rattle.std.specs.Prelude.{IsTrue, IsOk, OnOk, OnErr, IsNone, IfSome, IfNone, IfOk, Some, None, All};
+ghost use Rattle.std.specs.List.{last_or};
 ghost use Rattle.std.specs.List.Sorted.{IsStrictlyIncreasing};
 ghost use Rattle.std.specs.FinSet as fin_set;
 ghost use Rattle.std.specs.Int.{div_ceil};
 ghost use Rattle.std.specs.Ordering.{nat_cmp};
 ghost use Rattle.wic_bitset.specs.Compound.{capacity_of};
 ghost use Rattle.wic_bitset.specs.Greatest.{IsMax};
-ghost use Rattle.wic_scalar.specs.Extremes.{IsGreatest};
+ghost use Rattle.wic_base.specs.Sets.{IsGreatest};
 ghost use Rattle.wic_bitset.specs.Growth.{count_after, count_for};
 ghost use Rattle.wic_bitset.specs.Rising.{rising, word_members};
 ghost use Rattle.wic_bitset.specs.Summary.{block_members, block_words, filled_words, Summarizes};
@@ -18,20 +19,19 @@ mod pairs;
 use crate::growth::grown_count;
 use crate::iter::Iter;
 use crate::iter_scalars::IterScalars;
-use crate::steps::Steps;
 use crate::store::Store;
 use crate::store_iter::StoreIter;
 use std::alloc::Global;
 use std::marker::Model;
 use std::sync::ledger::Ledger;
-use wic_base::OutOfMemory;
+use wic_base::{OutOfMemory, Steps};
 use wic_scalar::ScalarBitSetStorage;
 use wic_vec::TryVec;
 
 /// A set of numbers, each at most 4294967295, in words of `T`.
 ///
 /// A contract sees its `members`, a finite set, and the number of its `words`; the capacity is the words times the
-/// width of `T`. A port of `cranelift_bitset::CompoundBitSet`.
+/// width of `T`.
 #[derive(Drop)]
 pub struct CompoundBitSet<T: ScalarBitSetStorage = usize> {
     words: Store<T>,
@@ -56,9 +56,7 @@ impl<T: ScalarBitSetStorage> Model for CompoundBitSet<T> {
 }
 
 impl<T: ScalarBitSetStorage> CompoundBitSet<T> {
-    /// The empty set, with no words. It takes no memory.
-    ///
-    /// A port of `CompoundBitSet::new`.
+    /// The empty set, with no words. It allocates nothing.
     pub fn new(alloc: Global) -> CompoundBitSet<T>
         ensures members { result.members ≡ fin_set.empty }
         ensures words { result.words ≡ 0 }
@@ -70,9 +68,7 @@ impl<T: ScalarBitSetStorage> CompoundBitSet<T> {
         }
     }
 
-    /// The empty set with room for the numbers below `capacity`. A capacity of 0 is never refused.
-    ///
-    /// A port of `CompoundBitSet::with_capacity`, which panics where memory is wanted.
+    /// The empty set with room for the numbers below `capacity`, at most 4294967296. A capacity of 0 is never refused.
     pub fn with_capacity(alloc: Global, capacity: usize) -> Result<CompoundBitSet<T>, OutOfMemory>
         requires within { capacity ≤ 4294967296 }
         ensures members { IfOk result (λ set. set.members ≡ fin_set.empty) }
@@ -83,9 +79,7 @@ impl<T: ScalarBitSetStorage> CompoundBitSet<T> {
         CompoundBitSet::try_with_capacity(alloc, capacity)
     }
 
-    /// The empty set with room for the numbers below `capacity`. A capacity of 0 is never refused.
-    ///
-    /// A port of `CompoundBitSet::try_with_capacity`.
+    /// The empty set with room for the numbers below `capacity`, as `with_capacity`.
     pub fn try_with_capacity(
         alloc: Global,
         capacity: usize,
@@ -101,9 +95,7 @@ impl<T: ScalarBitSetStorage> CompoundBitSet<T> {
         Ok(set)
     }
 
-    /// The same members in as many words.
-    ///
-    /// A port of `Clone for CompoundBitSet`, which panics where memory is wanted.
+    /// A copy with the same members and as many words. A refusal leaves nothing.
     pub fn try_clone(&self, alloc: Global) -> Result<CompoundBitSet<T>, OutOfMemory>
         ensures same { IfOk result (λ copy. copy ≡ self.now) }
     {
@@ -118,8 +110,6 @@ impl<T: ScalarBitSetStorage> CompoundBitSet<T> {
     }
 
     /// Makes room for the numbers below `n`, as `try_ensure_capacity` does.
-    ///
-    /// A port of `CompoundBitSet::ensure_capacity`, which panics where memory is wanted.
     pub fn ensure_capacity(&mut self, n: usize) -> Result<(), OutOfMemory>
         requires within { n ≤ 4294967296 }
         ensures members { self.new.members ≡ self.old.members }
@@ -134,11 +124,9 @@ impl<T: ScalarBitSetStorage> CompoundBitSet<T> {
         self.try_ensure_capacity(n)
     }
 
-    /// Makes room for the numbers below `n`: nothing is done where there is room, and else the count of words grows by
-    /// the rule of growth for the word of `n - 1`. The members stay. It is refused only where `n` is above the
-    /// capacity, and then the set is as before.
-    ///
-    /// A port of `CompoundBitSet::try_ensure_capacity`, which loses the members where it is refused.
+    /// Makes room for the numbers below `n`, at most 4294967296. If there is room, it does nothing; else the count of words grows
+    /// by the rule of growth for the word of `n - 1`. It is refused only if `n` is above the capacity, and then the set is as
+    /// before, where the original loses the members.
     pub fn try_ensure_capacity(&mut self, n: usize) -> Result<(), OutOfMemory>
         requires within { n ≤ 4294967296 }
         ensures members { self.new.members ≡ self.old.members }
@@ -156,10 +144,8 @@ impl<T: ScalarBitSetStorage> CompoundBitSet<T> {
         self.make_room_for(n - 1)
     }
 
-    /// Puts `i` in, and answers whether it was not there before. Where `i` isn't below the capacity, the count of words
-    /// grows first, by the rule of growth for the word of `i`. It is refused only there, and then the set is as before.
-    ///
-    /// A port of `CompoundBitSet::insert`, which panics where memory is wanted.
+    /// Puts `i`, at most 4294967295, in, and returns whether it is new. If `i` is at the capacity or above, the count of words
+    /// grows first, by the rule of growth for the word of `i`. It is refused only then, and the set is as before.
     pub fn insert(&mut self, i: usize) -> Result<bool, OutOfMemory>
         requires number { i ≤ 4294967295 }
         ensures new { IfOk result (λ is_new. is_new ≡ not (fin_set.contains self.old.members i)) }
@@ -175,13 +161,14 @@ impl<T: ScalarBitSetStorage> CompoundBitSet<T> {
         Ok(self.insert_below(i))
     }
 
-    /// Takes `i` out, and answers whether it was there: `i` may be any number.
-    ///
-    /// A port of `CompoundBitSet::remove`.
+    /// Takes `i` out, and returns whether it was there: `i` may be any number. If it is the maximum, the summary words are read
+    /// down to that of the next one.
     pub fn remove(&mut self, i: usize) -> bool
         ensures present { result ≡ fin_set.contains self.old.members i }
         ensures members { self.new.members ≡ fin_set.remove self.old.members i }
         ensures words { self.new.words ≡ self.old.words }
+        ensures below { IsTrue result → i < capacity_of T.width self.old }
+        ensures number { IsTrue result → i ≤ 4294967295 }
     {
         let was_present = remove_from(&mut self.words, &mut self.summary, i);
         if self.max == Some(i) {
@@ -191,37 +178,40 @@ impl<T: ScalarBitSetStorage> CompoundBitSet<T> {
         was_present
     }
 
-    /// Takes the greatest member out and answers it, or `None` exactly where there is none.
-    ///
-    /// A port of `CompoundBitSet::pop`.
+    /// Takes the greatest member out and returns it, or `None` if there is none. It costs what `remove` does.
     pub fn pop(&mut self) -> Option<usize>
         ensures none { IsNone result ↔ (self.old.members ≡ fin_set.empty) }
         ensures none_leaves { IfNone result (self.new ≡ self.old) }
         ensures member { IfSome result (λ x. fin_set.contains self.old.members x ≡ true) }
-        ensures greatest { IfSome result (λ x. (i : ℕ) → fin_set.contains self.old.members i ≡ true → i ≤ x) }
-        ensures members { IfSome result (λ x. self.new.members ≡ fin_set.remove self.old.members x) }
+        ensures greatest { IfSome result (λ x. (i : ℕ)
+            → fin_set.contains self.old.members i ≡ true → i ≤ x) }
+        ensures members { IfSome result (λ x.
+            self.new.members ≡ fin_set.remove self.old.members x) }
         ensures words { self.new.words ≡ self.old.words }
+        ensures below { IfSome result (λ x. x < capacity_of T.width self.old) }
+        ensures number { IfSome result (λ x. x ≤ 4294967295) }
     {
         let max = self.max?;
         self.remove(max);
         Some(max)
     }
 
-    /// Takes every member out. The words stay.
-    ///
-    /// A port of `CompoundBitSet::clear`.
+    /// Takes every member out. The words stay. An empty set is left at once; else it reads the summary words up to that of the
+    /// greatest member, and writes each word that has a member once.
     pub fn clear(&mut self)
         ensures members { self.new.members ≡ fin_set.empty }
         ensures words { self.new.words ≡ self.old.words }
     {
-        self.words.clear();
-        self.summary.clear();
+        if self.is_empty() {
+            return;
+        }
+        let blocks = self.words_in_use().div_ceil(T::width() as usize);
+        self.words.clear_named(&self.summary, blocks);
+        self.summary.clear_within(blocks);
         self.max = None;
     }
 
     /// Whether `i` is a member: `i` may be any number.
-    ///
-    /// A port of `CompoundBitSet::contains`.
     pub fn contains(&self, i: usize) -> bool
         ensures member { result ≡ fin_set.contains self.now.members i }
         ensures below { IsTrue result → i < capacity_of T.width self.now }
@@ -230,20 +220,20 @@ impl<T: ScalarBitSetStorage> CompoundBitSet<T> {
         self.words.contains(i)
     }
 
-    /// The greatest member, or `None` exactly where there is none.
-    ///
-    /// A port of `CompoundBitSet::max`.
+    /// The greatest member, or `None` if there is none. It is the last item of a walk.
     pub fn max(&self) -> Option<usize>
         ensures none { IsNone result ↔ (self.now.members ≡ fin_set.empty) }
         ensures member { IfSome result (λ x. fin_set.contains self.now.members x ≡ true) }
-        ensures greatest { IfSome result (λ x. (i : ℕ) → fin_set.contains self.now.members i ≡ true → i ≤ x) }
+        ensures greatest { IfSome result (λ x. (i : ℕ)
+            → fin_set.contains self.now.members i ≡ true → i ≤ x) }
+        ensures below { IfSome result (λ x. x < capacity_of T.width self.now) }
+        ensures number { IfSome result (λ x. x ≤ 4294967295) }
+        ensures last { result ≡ last_or None (rising self.now.members) }
     {
         self.max
     }
 
-    /// How many members there are: the words that have a member are counted, each at once.
-    ///
-    /// A port of `CompoundBitSet::len`.
+    /// The number of members. It counts each word that has a member by one instruction.
     pub fn len(&self) -> usize
         ensures len { result ≡ fin_set.len self.now.members }
         ensures few { result ≤ 4294967296 }
@@ -256,17 +246,13 @@ impl<T: ScalarBitSetStorage> CompoundBitSet<T> {
     }
 
     /// Whether there is no member.
-    ///
-    /// A port of `CompoundBitSet::is_empty`.
     pub fn is_empty(&self) -> bool
         ensures empty { IsTrue result ↔ (self.now.members ≡ fin_set.empty) }
     {
         self.max.is_none()
     }
 
-    /// How many numbers there is room for: an `insert` of a number below is never refused. Each member is below.
-    ///
-    /// A port of `CompoundBitSet::capacity`.
+    /// The capacity: an `insert` of a number below it is never refused. Each member is below it.
     pub fn capacity(&self) -> usize
         ensures capacity { result ≡ capacity_of T.width self.now }
         ensures holds_all { (i : ℕ) → fin_set.contains self.now.members i ≡ true → i < result }
@@ -275,40 +261,37 @@ impl<T: ScalarBitSetStorage> CompoundBitSet<T> {
         self.words.capacity()
     }
 
-    /// A walk over the members, rising, each once. It reads the summary words up to that of the greatest member, and
-    /// each word that has a member once.
-    ///
-    /// A port of `CompoundBitSet::iter`.
+    /// The members, each once, ascending. A walk reads the summary words up to that of the maximum, and each word that has a
+    /// member once.
     pub fn iter(&self) -> Iter<'_, T>
         ensures members { result ≡ rising self.now.members }
         ensures each { fin_set.from_list result ≡ self.now.members }
         ensures once { IsStrictlyIncreasing result }
         ensures few { length result ≤ 4294967296 }
+        ensures below { All (λ i. i < capacity_of T.width self.now) result }
+        ensures numbers { All (λ i. i ≤ 4294967295) result }
     {
         Iter::new(&self.words, self.filled())
     }
 
-    /// The words from word 0 to that of the greatest member, and none where there is no member. Each is a set of the
-    /// places of its digits 1: place `j` of word `k` stands for the number `k * width + j`.
-    ///
-    /// A port of `CompoundBitSet::iter_scalars`.
+    /// The words from word 0 to that of the maximum, and none if there is no member: place `j` of word `k` stands for the
+    /// number `k * width + j`.
     pub fn iter_scalars(&self) -> IterScalars<'_, T>
         ensures words { AreWords T.width self.now.members (map (λ s. T.number s.0) result) }
     {
         IterScalars::new(self.words.first_words(self.words_in_use()))
     }
 
-    /// The members, rising. `steps` rises by at most the number of summary words and that of the words that have a
-    /// member: each of these is looked at once.
-    ///
-    /// This project's own.
+    /// The members, ascending, as a vector. It reads each summary word and each word that has a member at most once, and counts
+    /// these reads in `steps`, also if it is refused.
     pub fn members<L: Ledger>(
         &self,
         alloc: Global,
         steps: &mut Steps<L>,
     ) -> Result<TryVec<usize>, OutOfMemory>
         ensures members { IfOk result (λ list. list.items ≡ rising self.now.members) }
-        ensures looks { steps.new ≤ steps.old + div_ceil self.now.words T.width + fin_set.len (filled_words T.width self.now.members) }
+        ensures looks { steps.new ≤ steps.old + div_ceil self.now.words T.width
+            + fin_set.len (filled_words T.width self.now.members) }
     {
         let mut list = TryVec::new(alloc);
         let blocks = self.summary.count();
@@ -318,8 +301,8 @@ impl<T: ScalarBitSetStorage> CompoundBitSet<T> {
         Ok(list)
     }
 
-    // Asks for the word of `i`: the count of words becomes what the rule of growth says. The room of the summary is
-    // asked for first, then that of the words, and neither changes until both are had.
+    // Asks for the word of `i`: the count of words becomes what the rule of growth says. It reserves the room of the summary first,
+    // then that of the words, and changes neither until it has both.
     fn make_room_for(&mut self, i: usize) -> Result<(), OutOfMemory>
         requires number { i ≤ 4294967295 }
         ensures members { self.new.members ≡ self.old.members }
@@ -344,7 +327,7 @@ impl<T: ScalarBitSetStorage> CompoundBitSet<T> {
         Ok(())
     }
 
-    // Puts `i`, which is below the capacity, in, and answers whether it is new.
+    // Puts `i`, which is below the capacity, in, and returns whether it is new.
     fn insert_below(&mut self, i: usize) -> bool
         requires within { i < capacity_of T.width self.old }
         requires number { i ≤ 4294967295 }
@@ -365,7 +348,7 @@ impl<T: ScalarBitSetStorage> CompoundBitSet<T> {
             .iter(self.words_in_use().div_ceil(T::width() as usize))
     }
 
-    // How many words there are up to that of the greatest member.
+    // The number of words up to that of the maximum.
     fn words_in_use(&self) -> usize
         ensures within { result ≤ self.now.words }
         ensures reach { EndsBefore T.width self.now.members result }
@@ -377,7 +360,7 @@ impl<T: ScalarBitSetStorage> CompoundBitSet<T> {
         }
     }
 
-    // Puts the members of all words of summary word `s` at the end of `list`: one look, and one a word.
+    // Puts the members of all words of summary word `s` at the end of `list`: one read, and one per word.
     fn push_block<L: Ledger>(
         &self,
         s: usize,
@@ -385,8 +368,10 @@ impl<T: ScalarBitSetStorage> CompoundBitSet<T> {
         steps: &mut Steps<L>,
     ) -> Result<(), OutOfMemory>
         requires { s < div_ceil self.now.words T.width }
-        ensures members { OnOk result (list.new.items ≡ list.old.items ++ block_members T.width self.now.members s) }
-        ensures looks { steps.new ≤ steps.old + 1 + length (block_words T.width self.now.members s) }
+        ensures members { OnOk result
+            (list.new.items ≡ list.old.items ++ block_members T.width self.now.members s) }
+        ensures looks { steps.new
+            ≤ steps.old + 1 + length (block_words T.width self.now.members s) }
     {
         for k in self.summary.read(s, steps) {
             self.push_word(k, list, steps)?;
@@ -394,7 +379,7 @@ impl<T: ScalarBitSetStorage> CompoundBitSet<T> {
         Ok(())
     }
 
-    // Puts the members of word `k` at the end of `list`: one look.
+    // Puts the members of word `k` at the end of `list`: one read.
     fn push_word<L: Ledger>(
         &self,
         k: usize,
@@ -402,7 +387,8 @@ impl<T: ScalarBitSetStorage> CompoundBitSet<T> {
         steps: &mut Steps<L>,
     ) -> Result<(), OutOfMemory>
         requires { k < self.now.words }
-        ensures members { OnOk result (list.new.items ≡ list.old.items ++ word_members T.width self.now.members k) }
+        ensures members { OnOk result
+            (list.new.items ≡ list.old.items ++ word_members T.width self.now.members k) }
         ensures looks { steps.new ≡ steps.old + 1 }
     {
         for i in self.words.read(k, steps) {
@@ -412,7 +398,7 @@ impl<T: ScalarBitSetStorage> CompoundBitSet<T> {
     }
 }
 
-// Takes `i` out of `words`, and its word out of `summary` where that is empty then. Answers whether `i` was there.
+// Takes `i` out of `words`, and its word out of `summary` if that is empty then. Returns whether `i` was there.
 fn remove_from<T: ScalarBitSetStorage>(
     words: &mut Store<T>,
     summary: &mut Store<T>,
@@ -432,7 +418,7 @@ fn remove_from<T: ScalarBitSetStorage>(
     was_present
 }
 
-// The greatest member once `i` is put into a set whose greatest member is `max`.
+// The maximum once `i` is put into a set whose maximum is `max`.
 fn greatest_with(max: Option<usize>, i: usize) -> usize
     ensures { (s : fin_set.FinSet nat_cmp) → IsMax s max → IsGreatest (fin_set.insert s i) result }
 {
@@ -442,8 +428,8 @@ fn greatest_with(max: Option<usize>, i: usize) -> usize
     }
 }
 
-// The greatest member of `words`, where only the first `end` words have members. It looks at one summary word after the
-// other, from that of the last of these words downwards, and then at one word.
+// The maximum of `words`, if only the first `end` words have members. It reads one summary word after the other, from that of the
+// last of these words down, and then one word.
 fn greatest_within<T: ScalarBitSetStorage>(
     words: &Store<T>,
     summary: &Store<T>,
@@ -460,7 +446,7 @@ fn greatest_within<T: ScalarBitSetStorage>(
     }
 }
 
-/// The members, rising. A port of `impl IntoIterator for &CompoundBitSet`.
+/// The members, ascending.
 impl<'a, T: ScalarBitSetStorage> IntoIterator for &'a CompoundBitSet<T> {
     type Item = usize;
 

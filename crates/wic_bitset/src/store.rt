@@ -6,16 +6,17 @@ ghost use Rattle.std.specs.FinSet as fin_set;
 ghost use Rattle.wic_bitset.specs.Combination.{CombinesBelow, CombinesToNone, CombinesWord, MarksBelow, TellsChange};
 ghost use Rattle.wic_bitset.specs.Greatest.{IsMax};
 ghost use Rattle.wic_bitset.specs.Rising.{members_between, word_members};
-ghost use Rattle.wic_bitset.specs.Words.{most_words, greatest_start, AreFirstWords, EndsBefore, IsMaxOfWord, IsWordEmpty, IsWordOf};
+ghost use Rattle.wic_bitset.specs.Summary.{Summarizes};
+ghost use Rattle.wic_bitset.specs.Words.{most_words, greatest_start, AreFirstWords, EmptiesWord, EndsBefore, IsMaxOfWord};
+ghost use Rattle.wic_bitset.specs.Words.{IsWordEmpty, IsWordOf, SameWord, SameWordsBelow};
 
 use crate::combination::Combination;
-use crate::steps::Steps;
 use crate::store_iter::StoreIter;
 use crate::word_iter::WordIter;
 use std::alloc::Global;
 use std::marker::Model;
 use std::sync::ledger::Ledger;
-use wic_base::OutOfMemory;
+use wic_base::{OutOfMemory, Steps};
 use wic_scalar::{ScalarBitSet, ScalarBitSetStorage};
 use wic_vec::TryVec;
 
@@ -92,15 +93,42 @@ impl<T: ScalarBitSetStorage> Store<T> {
         }
     }
 
-    /// Takes every member out; the words stay.
-    pub fn clear(&mut self)
+    /// Empties word `k`.
+    pub fn clear_word(&mut self, k: usize)
+        requires { k < self.old.count }
+        ensures members { EmptiesWord T.width k self.old.members self.new.members }
+        ensures count { self.new.count ≡ self.old.count }
+        ensures room { self.new.room ≡ self.old.room }
+    {
+        self.words[k] = ScalarBitSet::new();
+    }
+
+    /// Empties the first `end` words, which have all members.
+    pub fn clear_within(&mut self, end: usize)
+        requires within { end ≤ self.old.count }
+        requires none_after { EndsBefore T.width self.old.members end }
         ensures members { self.new.members ≡ fin_set.empty }
         ensures count { self.new.count ≡ self.old.count }
         ensures room { self.new.room ≡ self.old.room }
     {
-        let count = self.words.len();
-        self.words.clear();
-        self.grow(count);
+        for k in 0..end {
+            self.clear_word(k);
+        }
+    }
+
+    /// Empties the words that `summary` names, which are all that have a member. It reads the first `end` words of `summary`,
+    /// which have all of them.
+    pub fn clear_named(&mut self, summary: &Store<T>, end: usize)
+        requires summary { Summarizes T.width self.old summary.now }
+        requires within { end ≤ summary.now.count }
+        requires none_after { EndsBefore T.width summary.now.members end }
+        ensures members { self.new.members ≡ fin_set.empty }
+        ensures count { self.new.count ≡ self.old.count }
+        ensures room { self.new.room ≡ self.old.room }
+    {
+        for k in summary.iter(end) {
+            self.clear_word(k);
+        }
     }
 
     /// How many words there are.
@@ -200,6 +228,25 @@ impl<T: ScalarBitSetStorage> Store<T> {
         self.words[k] = new;
         let same = new == old;
         !same
+    }
+
+    /// Whether word `k` has the same members here and in `other`. A word that isn't there is empty.
+    pub fn has_same_word(&self, other: &Store<T>, k: usize) -> bool
+        ensures { IsTrue result ↔ SameWord T.width k self.now.members other.now.members }
+    {
+        self.word_or_empty(k) == other.word_or_empty(k)
+    }
+
+    /// Whether each of the first `end` words has the same members here and in `other`.
+    pub fn has_same_words(&self, other: &Store<T>, end: usize) -> bool
+        ensures { IsTrue result ↔ SameWordsBelow T.width end self.now.members other.now.members }
+    {
+        for k in 0..end {
+            if !self.has_same_word(other, k) {
+                return false;
+            }
+        }
+        true
     }
 
     /// Whether what `how` makes of the first `end` words and of those of `other` has no member.

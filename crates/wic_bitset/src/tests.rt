@@ -1,15 +1,17 @@
-//! Calls at concrete storages, and printed text.
+//! Calls at concrete storages, and printed text. A function with no contract tells plain values of its own sets, so that a test
+//! compares them alone.
 ghost use Rattle.std.specs.Prelude.{◌≡◌, ◌<◌};
 
-use crate::callers::{emptied, far_apart, give_way, leave_for_a_while};
-use crate::{CompoundBitSet, Steps};
+use crate::CompoundBitSet;
+use crate::callers::{
+    emptied, far_apart, give_way, leave_for_a_while, put_greatest, restrict, walked_count,
+};
 use std::alloc::Global;
 use std::hash::{DefaultHasher, Hash, Hasher};
 use std::marker::Brand;
-use std::process::Abort;
 use std::sync::ledger::{Blank, Ledger};
 use std::test::Fail;
-use wic_base::OutOfMemory;
+use wic_base::{OutOfMemory, Steps};
 use wic_scalar::ScalarBitSetStorage;
 use wic_vec::TryVec;
 
@@ -25,6 +27,25 @@ fn set_of<T: ScalarBitSetStorage>(
     Ok(set)
 }
 
+// The members, as a walk gives them.
+fn listed<T: ScalarBitSetStorage>(
+    alloc: Global,
+    set: &CompoundBitSet<T>,
+) -> Result<Vec<usize>, Fail> {
+    let mut members = Vec::new(alloc);
+    for member in set {
+        members.push(member)?;
+    }
+    Ok(members)
+}
+
+// The capacity of a set with room for `n`.
+fn room_for(alloc: Global, n: u32) -> Result<(usize, usize), OutOfMemory> {
+    let one = CompoundBitSet::<u32>::with_capacity(alloc, n as usize)?;
+    let other = CompoundBitSet::<u32>::try_with_capacity(alloc, n as usize)?;
+    Ok((one.capacity(), other.capacity()))
+}
+
 // The capacity of a set after each of these numbers was asked for.
 fn asked(alloc: Global, numbers: &[u32]) -> Result<Vec<usize>, Fail> {
     let mut set: CompoundBitSet<u64> = CompoundBitSet::new(alloc);
@@ -36,94 +57,143 @@ fn asked(alloc: Global, numbers: &[u32]) -> Result<Vec<usize>, Fail> {
     Ok(capacities)
 }
 
-// Whether each of these numbers was new, and the capacity after it.
-fn inserted<T: ScalarBitSetStorage>(
-    alloc: Global,
-    numbers: &[u32],
-) -> Result<Vec<(bool, usize)>, Fail> {
-    let mut set: CompoundBitSet<T> = CompoundBitSet::new(alloc);
+// The capacity of a new set, and whether each of these numbers was new and the capacity after it.
+fn inserted(alloc: Global, numbers: &[u32]) -> Result<(usize, Vec<(bool, usize)>), Fail> {
+    let mut set: CompoundBitSet<u64> = CompoundBitSet::new(alloc);
+    let start = set.capacity();
     let mut answers = Vec::new(alloc);
     for number in numbers {
         let is_new = set.insert(*number as usize)?;
         answers.push((is_new, set.capacity()))?;
     }
-    Ok(answers)
+    Ok((start, answers))
 }
 
 #[test]
 fn room_grows_by_the_rule(rt: HostRuntime) -> Result<(), Fail> {
     let alloc = rt.alloc();
+    assert_eq!(rt; room_for(alloc, 0)?, (0, 0));
+    assert_eq!(rt; room_for(alloc, 4096)?, (4096, 4096));
+    let capacities = asked(alloc, &[1001, 1024, 1025])?;
+    assert_eq!(rt; capacities.as_slice(), [1024, 1024, 2048].as_slice());
+    Ok(())
+}
+
+#[test]
+fn a_new_set_has_no_room_and_grows_as_numbers_come(rt: HostRuntime) -> Result<(), Fail> {
+    let (start, far) = inserted(rt.alloc(), &[999, 1024])?;
+    assert_eq!(rt; start, 0);
+    assert_eq!(rt; far.as_slice(), [(true, 1024), (true, 2048)].as_slice());
+    let (_, near) = inserted(rt.alloc(), &[0, 0, 256])?;
     assert_eq!(rt;
-        CompoundBitSet::<u32>::with_capacity(alloc, 0)?.capacity(),
-        0
-    );
-    assert_eq!(rt;
-        CompoundBitSet::<u32>::try_with_capacity(alloc, 4096)?.capacity(),
-        4096
-    );
-    assert_eq!(rt;
-        asked(alloc, &[1001, 1024, 1025])?.as_slice(),
-        [1024, 1024, 2048].as_slice()
-    );
-    assert_eq!(rt;
-        inserted::<u64>(alloc, &[0, 0, 256])?.as_slice(),
+        near.as_slice(),
         [(true, 256), (false, 256), (true, 512)].as_slice()
     );
-    assert_eq!(rt;
-        inserted::<usize>(alloc, &[999, 1024])?.as_slice(),
-        [(true, 1024), (true, 2048)].as_slice()
-    );
     Ok(())
+}
+
+// What `max` and then `pop` return, once more than there are members.
+fn popped(alloc: Global, numbers: &[u32]) -> Result<Vec<(Option<usize>, Option<usize>)>, Fail> {
+    let mut set = set_of::<u64>(alloc, numbers)?;
+    let mut answers = Vec::new(alloc);
+    for _ in 0..=numbers.len() {
+        let max = set.max();
+        answers.push((max, set.pop()))?;
+    }
+    Ok(answers)
 }
 
 #[test]
 fn the_greatest_is_taken_out_first(rt: HostRuntime) -> Result<(), Fail> {
-    let mut set = set_of::<u64>(rt.alloc(), &[111, 222, 333, 444, 555])?;
-    for popped in [Some(555), Some(444), Some(333), Some(222), Some(111), None] {
-        assert_eq!(rt; set.max(), popped);
-        assert_eq!(rt; set.pop(), popped);
+    let answers = popped(rt.alloc(), &[111, 222, 333, 444, 555])?;
+    let mut expected = [Some(555), Some(444), Some(333), Some(222), Some(111), None].iter();
+    for (max, popped) in &answers {
+        assert_eq!(rt; max, popped);
+        assert_eq!(rt; Some(max), expected.next());
     }
+    assert!(rt; expected.next().is_none());
     Ok(())
 }
 
+// Whether `number` was taken out, and the debug text after it.
+fn without(alloc: Global, numbers: &[u32], number: usize) -> Result<(bool, String), Fail> {
+    let mut set = set_of::<u64>(alloc, numbers)?;
+    let was_present = set.remove(number);
+    Ok((was_present, format!(in alloc; "{set:?}")?))
+}
+
 #[test]
-fn any_number_can_be_taken_out(rt: HostRuntime) -> Result<(), Fail> {
-    let alloc = rt.alloc();
-    let mut set = set_of::<usize>(alloc, &[444, 666, 555])?;
-    assert!(rt; set.remove(666));
-    let text = format!(in alloc; "{set:?}")?;
+fn a_member_is_taken_out_and_the_rest_is_printed(rt: HostRuntime) -> Result<(), Fail> {
+    let (was_present, text) = without(rt.alloc(), &[444, 555, 666], 666)?;
+    assert!(rt; was_present);
     assert_eq!(rt; text.as_str(), "CompoundBitSet {444, 555}");
-    set.clear();
-    assert!(rt; set.is_empty());
-    assert_eq!(rt; set.capacity(), 896);
-    assert!(rt; !set.remove(18446744073709551615));
-    assert!(rt; !set.contains(18446744073709551615));
     Ok(())
+}
+
+// Whether the greatest number is taken out of a new set and is in it, and the capacity.
+fn greatest_number(alloc: Global) -> (bool, bool, usize) {
+    let mut set: CompoundBitSet<u64> = CompoundBitSet::new(alloc);
+    let was_present = set.remove(18446744073709551615);
+    (
+        was_present,
+        set.contains(18446744073709551615),
+        set.capacity(),
+    )
+}
+
+// Whether a set of these numbers is empty once it is cleared, its capacity, and whether it was cleared again with no change.
+fn cleared(alloc: Global, numbers: &[u32]) -> Result<(bool, usize, bool), OutOfMemory> {
+    let mut set = set_of::<usize>(alloc, numbers)?;
+    set.clear();
+    let is_empty = set.is_empty() && set.iter().next().is_none();
+    let capacity = set.capacity();
+    set.clear();
+    Ok((
+        is_empty,
+        capacity,
+        set.is_empty() && set.capacity() == capacity,
+    ))
+}
+
+#[test]
+fn any_number_may_be_asked_for_and_a_cleared_set_keeps_its_room(
+    rt: HostRuntime,
+) -> Result<(), Fail> {
+    assert_eq!(rt; greatest_number(rt.alloc()), (false, false, 0));
+    assert_eq!(rt; cleared(rt.alloc(), &[444, 666, 555])?, (true, 896, true));
+    assert_eq!(rt; cleared(rt.alloc(), &[])?, (true, 0, true));
+    Ok(())
+}
+
+// The first items of a walk over a set of the one number 1.
+fn walk_of_one(alloc: Global) -> Result<[Option<usize>; 4], OutOfMemory> {
+    let set = set_of::<u128>(alloc, &[1])?;
+    let mut walk = set.iter();
+    Ok([walk.next(), walk.next(), walk.next(), walk.next()])
 }
 
 #[test]
 fn a_walk_stays_at_its_end(rt: HostRuntime) -> Result<(), Fail> {
-    let set = set_of::<u128>(rt.alloc(), &[1])?;
-    let mut walk = set.iter();
-    assert_eq!(rt; walk.next(), Some(1));
-    for _ in 0..3 {
-        assert_eq!(rt; walk.next(), None);
-    }
+    assert!(rt; walk_of_one(rt.alloc())? == [Some(1), None, None, None]);
     Ok(())
+}
+
+// A set of these numbers, its copy without the greatest: whether they were equal first, and both maxima then.
+fn copied(
+    alloc: Global,
+    numbers: &[u32],
+) -> Result<(bool, Option<usize>, Option<usize>), OutOfMemory> {
+    let set = set_of::<u64>(alloc, numbers)?;
+    let mut copy = set.try_clone(alloc)?;
+    let same = copy == set;
+    copy.pop();
+    Ok((same, set.max(), copy.max()))
 }
 
 #[test]
 fn a_copy_goes_its_own_way(rt: HostRuntime) -> Result<(), Fail> {
-    let alloc = rt.alloc();
-    let set = set_of::<u64>(alloc, &[0, 4096, 123, 456, 789])?;
-    let rising = [0, 123, 456, 789, 4096];
-    assert!(rt; (&set).into_iter().eq(rising));
-    assert_eq!(rt; set.len(), 5);
-    let mut copy = set.try_clone(alloc)?;
-    assert!(rt; copy == set);
-    assert!(rt; copy.remove(4096));
-    assert_eq!(rt; copy.max(), Some(789));
-    assert_eq!(rt; set.max(), Some(4096));
+    let told = copied(rt.alloc(), &[0, 4096, 123, 456, 789])?;
+    assert_eq!(rt; told, (true, Some(4096), Some(789)));
     Ok(())
 }
 
@@ -219,45 +289,59 @@ const PAIRS: [Pair<'static>; 5] = [
     },
 ];
 
-fn joins(rt: &impl Abort, alloc: Global, pair: &Pair<'_>) -> Result<(), Fail> {
-    let mut set = set_of::<u16>(alloc, pair.left)?;
-    let other = set_of::<u16>(alloc, pair.right)?;
-    let is_new = set.union_with(&other)?;
-    assert_eq!(rt; is_new, pair.either.len() > pair.left.len());
-    assert!(rt; set == set_of(alloc, pair.either)?);
-    Ok(())
+// Whether the set has just these numbers, in order.
+fn has_just(set: &CompoundBitSet<u16>, numbers: &[u32]) -> bool {
+    let mut numbers = numbers.iter();
+    for member in set {
+        match numbers.next() {
+            Some(number) => {
+                if member != *number as usize {
+                    return false;
+                }
+            },
+            None => return false,
+        }
+    }
+    numbers.next().is_none()
 }
 
-fn meets(rt: &impl Abort, alloc: Global, pair: &Pair<'_>) -> Result<(), Fail> {
+fn joins(alloc: Global, pair: &Pair<'_>) -> Result<bool, OutOfMemory> {
     let mut set = set_of::<u16>(alloc, pair.left)?;
     let other = set_of::<u16>(alloc, pair.right)?;
-    assert_eq!(rt; set.is_disjoint(&other), pair.both.is_empty());
-    assert_eq!(rt;
-        set.intersect_with(&other),
-        pair.both.len() < pair.left.len()
-    );
-    assert!(rt; set == set_of(alloc, pair.both)?);
-    Ok(())
+    let added = set.union_with(&other)?;
+    Ok(has_just(&set, pair.either) && added == (pair.either.len() > pair.left.len()))
 }
 
-fn parts(rt: &impl Abort, alloc: Global, pair: &Pair<'_>) -> Result<(), Fail> {
+fn meets(alloc: Global, pair: &Pair<'_>) -> Result<bool, OutOfMemory> {
     let mut set = set_of::<u16>(alloc, pair.left)?;
     let other = set_of::<u16>(alloc, pair.right)?;
-    assert_eq!(rt; set.is_subset(&other), pair.left_alone.is_empty());
-    assert_eq!(rt;
-        set.subtract(&other),
-        pair.left_alone.len() < pair.left.len()
-    );
-    assert!(rt; set == set_of(alloc, pair.left_alone)?);
-    Ok(())
+    let disjoint = set.is_disjoint(&other);
+    let dropped = set.intersect_with(&other);
+    Ok(
+        has_just(&set, pair.both)
+            && disjoint == pair.both.is_empty()
+            && dropped == (pair.both.len() < pair.left.len()),
+    )
+}
+
+fn parts(alloc: Global, pair: &Pair<'_>) -> Result<bool, OutOfMemory> {
+    let mut set = set_of::<u16>(alloc, pair.left)?;
+    let other = set_of::<u16>(alloc, pair.right)?;
+    let subset = set.is_subset(&other);
+    let dropped = set.subtract(&other);
+    Ok(
+        has_just(&set, pair.left_alone)
+            && subset == pair.left_alone.is_empty()
+            && dropped == (pair.left_alone.len() < pair.left.len()),
+    )
 }
 
 #[test]
 fn two_sets_are_joined_and_parted_by_words(rt: HostRuntime) -> Result<(), Fail> {
     for pair in &PAIRS {
-        joins(&rt, rt.alloc(), pair)?;
-        meets(&rt, rt.alloc(), pair)?;
-        parts(&rt, rt.alloc(), pair)?;
+        assert!(rt; joins(rt.alloc(), pair)?);
+        assert!(rt; meets(rt.alloc(), pair)?);
+        assert!(rt; parts(rt.alloc(), pair)?);
     }
     Ok(())
 }
@@ -268,43 +352,57 @@ fn hash_of<T: ScalarBitSetStorage>(set: &CompoundBitSet<T>) -> u64 {
     hasher.finish()
 }
 
+// Whether a set of these numbers and one that also held `more` are equal before and after `more` goes, and whether their hashes
+// are equal then.
+fn compared<T: ScalarBitSetStorage>(
+    alloc: Global,
+    numbers: &[u32],
+    more: u32,
+) -> Result<(bool, bool, bool), OutOfMemory> {
+    let left = set_of::<T>(alloc, numbers)?;
+    let mut right = set_of::<T>(alloc, numbers)?;
+    right.insert(more as usize)?;
+    let before = left == right;
+    right.remove(more as usize);
+    Ok((before, left == right, hash_of(&left) == hash_of(&right)))
+}
+
 #[test]
-fn sets_are_equal_by_their_members(rt: HostRuntime) -> Result<(), Fail> {
-    let left = set_of::<u8>(rt.alloc(), &[700, 3])?;
-    let mut right = set_of::<u8>(rt.alloc(), &[3, 100000, 700])?;
-    assert!(rt; left != right);
-    assert!(rt; right.remove(100000));
-    assert!(rt; left == right);
-    assert_eq!(rt; hash_of(&left), hash_of(&right));
+fn sets_are_equal_by_their_members_whatever_room_they_have(rt: HostRuntime) -> Result<(), Fail> {
+    let expected = (false, true, true);
+    assert_eq!(rt; compared::<u64>(rt.alloc(), &[3, 700], 100000)?, expected);
+    assert_eq!(rt; compared::<u8>(rt.alloc(), &[700, 3], 100000)?, expected);
+    assert_eq!(rt; compared::<u64>(rt.alloc(), &[1], 2)?, expected);
+    assert_eq!(rt; compared::<u16>(rt.alloc(), &[5, 5000], 300)?, expected);
+    assert_eq!(rt; compared::<u64>(rt.alloc(), &[], 64)?, expected);
     Ok(())
 }
 
-// A set with room for so many numbers, and 1 in it.
-fn only_one(alloc: Global, capacity: u32) -> Result<CompoundBitSet<u64>, OutOfMemory> {
-    let mut set = CompoundBitSet::with_capacity(alloc, capacity as usize)?;
-    set.insert(1)?;
-    Ok(set)
-}
-
-#[test]
-fn room_makes_no_difference(rt: HostRuntime) -> Result<(), Fail> {
-    let left = only_one(rt.alloc(), 256)?;
-    let mut right = only_one(rt.alloc(), 512)?;
-    assert!(rt; left == right);
-    right.insert(2)?;
-    assert!(rt; left != right);
-    Ok(())
-}
-
-#[test]
-fn callers_need_no_memory_below_the_capacity(rt: HostRuntime) -> Result<(), Fail> {
-    let alloc = rt.alloc();
+// What callers leave of the set of 3 and 60, as a list, and the count of a walk.
+fn called(alloc: Global) -> Result<(Vec<usize>, usize), Fail> {
     let mut set = set_of::<u16>(alloc, &[3, 60])?;
     leave_for_a_while(&mut set, 60);
     if set.capacity() > 8 {
         give_way(&mut set, 3, 8);
     }
-    assert!(rt; set == set_of::<u16>(alloc, &[8, 60])?);
+    let count = walked_count(&set);
+    Ok((listed(alloc, &set)?, count))
+}
+
+// What of the set of 3 and 60 is put into another set, and whether it has more than the first.
+fn moved(alloc: Global) -> Result<(Option<usize>, bool), OutOfMemory> {
+    let set = set_of::<u16>(alloc, &[3, 60])?;
+    let mut other = CompoundBitSet::<u16>::new(alloc);
+    let put = put_greatest(&set, &mut other)?;
+    Ok((put, restrict(&mut other, &set)))
+}
+
+#[test]
+fn callers_need_no_memory_below_the_capacity(rt: HostRuntime) -> Result<(), Fail> {
+    let (members, count) = called(rt.alloc())?;
+    assert_eq!(rt; members.as_slice(), [8, 60].as_slice());
+    assert_eq!(rt; count, 2);
+    assert_eq!(rt; moved(rt.alloc())?, (Some(60), false));
     Ok(())
 }
 
@@ -314,46 +412,69 @@ fn random(seed: u64) -> u64 {
         .wrapping_add(1442695040888963407)
 }
 
-// One random call, on the set and on a sorted list of its members.
+// Whether the set and a sorted list of its members say the same of `number` as it is put into both.
+fn same_insert(
+    set: &mut CompoundBitSet<u16>,
+    list: &mut Vec<usize>,
+    number: u32,
+) -> Result<bool, Fail> {
+    let is_new = set.insert(number as usize)?;
+    match list.binary_search(&(number as usize)) {
+        Ok(_) => Ok(!is_new),
+        Err(place) => {
+            list.insert(place, number as usize)?;
+            Ok(is_new)
+        },
+    }
+}
+
+// Whether they say the same of `number` as it is taken out of both.
+fn same_remove(set: &mut CompoundBitSet<u16>, list: &mut Vec<usize>, number: u32) -> bool {
+    let was_present = set.remove(number as usize);
+    match list.binary_search(&(number as usize)) {
+        Ok(place) => {
+            list.remove(place);
+            was_present
+        },
+        Err(_) => !was_present,
+    }
+}
+
+// Whether they say the same of one random call, and of a number and the greatest member after it.
 fn same_call(
-    rt: &impl Abort,
     seed: u64,
     set: &mut CompoundBitSet<u16>,
     list: &mut Vec<usize>,
-) -> Result<(), Fail> {
-    let number = (seed >> 33) as usize % 3000;
-    let found = list.binary_search(&number);
-    assert_eq!(rt; set.contains(number), found.is_ok());
-    match (seed >> 61, found) {
-        (0, _) => assert_eq!(rt; set.pop(), list.pop()),
-        (1..=3, Ok(place)) => {
-            list.remove(place);
-            assert!(rt; set.remove(number));
-        }
-        (1..=3, Err(_)) => assert!(rt; !set.remove(number)),
-        (_, Ok(_)) => assert!(rt; !set.insert(number)?),
-        (_, Err(place)) => {
-            list.insert(place, number)?;
-            assert!(rt; set.insert(number)?);
-        }
-    }
-    assert_eq!(rt; set.max(), list.last().copied());
-    Ok(())
+) -> Result<bool, Fail> {
+    let number = (seed >> 33) as u32 % 3000;
+    let same = match seed >> 61 {
+        0 => set.pop() == list.pop(),
+        1..=3 => same_remove(set, list, number),
+        _ => same_insert(set, list, number)?,
+    };
+    let has = list.binary_search(&(number as usize)).is_ok();
+    Ok(same && set.contains(number as usize) == has && set.max() == list.last().copied())
 }
 
-#[test]
-fn random_calls_answer_as_a_sorted_list_does(rt: HostRuntime) -> Result<(), Fail> {
-    let mut set = CompoundBitSet::new(rt.alloc());
-    let mut list = Vec::new(rt.alloc());
+// How many members are left after 5000 such calls, if all of them and each fifth hundredth list say the same.
+fn after_random_calls(alloc: Global) -> Result<Option<usize>, Fail> {
+    let mut set = CompoundBitSet::new(alloc);
+    let mut list = Vec::new(alloc);
     let mut seed = 1;
     for call in 0..5000 {
         seed = random(seed);
-        same_call(&rt, seed, &mut set, &mut list)?;
-        if call % 500 == 499 {
-            assert!(rt; set.iter().eq(list.iter().copied()));
-            assert_eq!(rt; set.len(), list.len());
+        if !same_call(seed, &mut set, &mut list)? {
+            return Ok(None);
+        }
+        if call % 500 == 499 && !(set.iter().eq(list.iter().copied()) && set.len() == list.len()) {
+            return Ok(None);
         }
     }
-    assert!(rt; list.len() > 100);
+    Ok(Some(list.len()))
+}
+
+#[test]
+fn random_calls_do_what_a_sorted_list_does(rt: HostRuntime) -> Result<(), Fail> {
+    assert!(rt; after_random_calls(rt.alloc())?.is_some_and(|left| left > 100));
     Ok(())
 }

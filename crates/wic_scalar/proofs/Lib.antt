@@ -1,5 +1,4 @@
-pub mod DigitLemmas
-pub mod MemberLemmas
-pub mod SetFacts
-pub mod SetLemmas
-pub mod Widths
+pub mod CallFacts
+pub mod DigitFacts
+pub mod MemberFacts
+pub mod WidthFacts

@@ -1,4 +1,3 @@
 pub mod Digits
-pub mod Extremes
 pub mod Laws
 pub mod Scalar

@@ -7,7 +7,7 @@ use Rattle.std.specs.Ordering.{nat_cmp}
 use Rattle.std.specs.FinSet.{FinSet, from_list}
 use Rattle.wic_scalar.specs.Digits.{is_one}
 
--- the members of the set of a number n of width w: the places below w whose digit is 1, rising
+-- the members of the set of a number n of width w: the places below w whose digit is 1, ascending
 unfoldable pub members_of : ℕ → ℕ → List ℕ
 members_of w n = filter (is_one n) (range_with_len 0 w)
 

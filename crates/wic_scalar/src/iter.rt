@@ -8,9 +8,7 @@ use crate::storage::ScalarBitSetStorage;
 use std::iter::FusedIterator;
 use std::marker::Model;
 
-/// A walk over the members of a set, rising, seen as the list of those that are left.
-///
-/// A port of `cranelift_bitset::scalar::Iter`, with the exact count in `size_hint` too.
+/// A walk over the members of a set, ascending, seen as the list of those that are left. `size_hint` is exact.
 #[derive(Drop)]
 pub struct Iter<T: ScalarBitSetStorage> {
     // What is left.
@@ -34,7 +32,7 @@ impl<T: ScalarBitSetStorage> Iterator for Iter<T> {
     ghost remaining = { item_count (λ rest. rest) };
 
     #[inline]
-    #[tactic(auto, using(crate::proofs::MemberLemmas::front_step))]
+    #[tactic(auto, using(crate::proofs::MemberFacts::front_step))]
     fn next(&mut self) -> Option<u8> {
         self.bitset.pop_min()
     }
@@ -54,7 +52,7 @@ impl<T: ScalarBitSetStorage> DoubleEndedIterator for Iter<T> {
     ghost next_back_gives = { YieldsLast (λ rest. rest) };
 
     #[inline]
-    #[tactic(auto, using(crate::proofs::MemberLemmas::back_step))]
+    #[tactic(auto, using(crate::proofs::MemberFacts::back_step))]
     fn next_back(&mut self) -> Option<u8> {
         self.bitset.pop_max()
     }
@@ -62,7 +60,7 @@ impl<T: ScalarBitSetStorage> DoubleEndedIterator for Iter<T> {
 
 impl<T: ScalarBitSetStorage> ExactSizeIterator for Iter<T> {
     #[inline]
-    #[tactic(auto, using(crate::proofs::SetLemmas::as_many_listed))]
+    #[tactic(auto, using(crate::proofs::CallFacts::as_many_listed))]
     fn len(&self) -> usize
         ensures value { result ≡ length self.now }
         ensures within { result ≤ T.width }

@@ -1,10 +1,7 @@
-//! A law of the definitions that the contracts of sets cite. No call of this module does anything.
+//! A law of the definitions that the contracts of sets cite. A call has no effect at run time.
 ghost use Rattle.wic_scalar.specs.Laws.{ListsAndSetsAgree};
 
-/// The rising list that a walk gives and the set that the other calls speak of have the same members, each once, all
-/// of them below the width.
-///
-/// A law of this project's own.
+/// The ascending list that a walk gives has each member of the set once, and as many as there are; all are below the width.
 pub fn law_members()
     ensures { ListsAndSetsAgree }
 {}

@@ -1,28 +1,26 @@
 //! A set of small numbers in one integer.
 ghost use Rattle.std.specs.Prelude.{◌≡◌, ◌==◌, ◌↔◌, ◌+◌, ◌-◌, ◌<◌, ◌≤◌, nat_eq, true};
-ghost use Rattle.std.specs.Prelude.{not, if◌then◌else◌, IsTrue, IsNone, IfNone, IfSome, All};
-ghost use Rattle.std.specs.List.{range_with_len};
+ghost use Rattle.std.specs.Prelude.{not, if◌then◌else◌, IsTrue, IsNone, IfNone, IfSome, None, All};
+ghost use Rattle.std.specs.List.{last_or, range_with_len, slice_get};
 ghost use Rattle.std.specs.List.Sorted.{IsStrictlyIncreasing};
 ghost use Rattle.std.specs.Cmp.{on_equiv, on_per, partial_equiv_from_equiv};
 ghost use Rattle.std.specs.Cmp.Lexicographic.{pointwise, nat_list_eq_equiv};
 ghost use Rattle.std.specs.Ordering.{on};
 ghost use Rattle.std.specs.FinSet as fin_set;
-ghost use Rattle.wic_scalar.specs.Extremes.{IsGreatest, IsLeast};
+ghost use Rattle.wic_base.specs.Sets.{IsGreatest, IsLeast};
 ghost use Rattle.wic_scalar.specs.Scalar.{members_of, set_of};
 
 use crate::iter::Iter;
 use crate::storage::ScalarBitSetStorage;
 
-/// A set of numbers below the width of `T`: the places of the number whose digit in base two is 1.
-/// A clause sees it as the finite set `set_of`, and a walk as the rising list of its members,
-/// `members_of`. No call but a walk looks at one place after another.
-///
-/// A port of `cranelift_bitset::ScalarBitSet`.
+/// A set of numbers below the width of `T`: the places of the digits 1 of an integer in base two.
+/// A clause sees it as the finite set `set_of`, and a walk as the ascending list of its members, `members_of`.
+/// Each call takes a few instructions.
 #[derive(Clone, Copy)]
 pub struct ScalarBitSet<T>(pub T);
 
 impl<T: ScalarBitSetStorage> ScalarBitSet<T> {
-    /// The empty set. A port of `ScalarBitSet::new`.
+    /// The empty set.
     #[inline]
     pub fn new() -> Self
         ensures { set_of T.width (T.number result.0) ≡ fin_set.empty }
@@ -30,18 +28,19 @@ impl<T: ScalarBitSetStorage> ScalarBitSet<T> {
         Self(T::zero())
     }
 
-    /// The numbers from `lo` to below `hi`: none where the two are equal, at the full width too.
-    /// A port of `ScalarBitSet::from_range`, which shifts by the width at `lo == hi == capacity()`.
+    /// The numbers from `lo` to below `hi`: none if the two are equal, at the full width too, where the original overflows a shift.
     #[inline]
     pub fn from_range(lo: u8, hi: u8) -> Self
         requires ordered { lo ≤ hi }
         requires within { hi ≤ T.width }
-        ensures { set_of T.width (T.number result.0) ≡ fin_set.from_list (range_with_len lo (hi - lo)) }
+        ensures set { set_of T.width (T.number result.0)
+            ≡ fin_set.from_list (range_with_len lo (hi - lo)) }
+        ensures count { fin_set.len (set_of T.width (T.number result.0)) ≡ hi - lo }
     {
         Self(T::below(hi).bit_and(T::below(lo).bit_not()))
     }
 
-    /// How many numbers the set can hold: each is below this. A port of `ScalarBitSet::capacity`.
+    /// The width of `T`: each member is below it.
     #[inline]
     pub fn capacity() -> u8
         ensures width { result ≡ T.width }
@@ -50,7 +49,7 @@ impl<T: ScalarBitSetStorage> ScalarBitSet<T> {
         T::width()
     }
 
-    /// How many members there are. A port of `ScalarBitSet::len`.
+    /// The number of members.
     #[inline]
     pub fn len(&self) -> u8
         ensures count { result ≡ fin_set.len (set_of T.width (T.number self.now.0)) }
@@ -59,7 +58,7 @@ impl<T: ScalarBitSetStorage> ScalarBitSet<T> {
         self.0.count_ones()
     }
 
-    /// Whether there is no member. A port of `ScalarBitSet::is_empty`.
+    /// Whether there is no member.
     #[inline]
     pub fn is_empty(&self) -> bool
         ensures { IsTrue result ↔ (set_of T.width (T.number self.now.0) ≡ fin_set.empty) }
@@ -67,7 +66,7 @@ impl<T: ScalarBitSetStorage> ScalarBitSet<T> {
         self.0.is_equal(T::zero())
     }
 
-    /// Whether `i`, which is below `capacity()`, is a member. A port of `ScalarBitSet::contains`.
+    /// Whether `i` is a member. `i` must be below `capacity()`.
     #[inline]
     pub fn contains(&self, i: u8) -> bool
         requires { i < T.width }
@@ -76,13 +75,13 @@ impl<T: ScalarBitSetStorage> ScalarBitSet<T> {
         !self.0.bit_and(T::bit(i)).is_equal(T::zero())
     }
 
-    /// Puts `i`, which is below `capacity()`, in, and answers whether it was not there before.
-    /// A port of `ScalarBitSet::insert`.
+    /// Puts `i` in, and returns whether it is new. `i` must be below `capacity()`.
     #[inline]
     pub fn insert(&mut self, i: u8) -> bool
         requires { i < T.width }
         ensures new { result ≡ not (fin_set.contains (set_of T.width (T.number self.old.0)) i) }
-        ensures set { set_of T.width (T.number self.new.0) ≡ fin_set.insert (set_of T.width (T.number self.old.0)) i }
+        ensures set { set_of T.width (T.number self.new.0)
+            ≡ fin_set.insert (set_of T.width (T.number self.old.0)) i }
         ensures count { fin_set.len (set_of T.width (T.number self.new.0))
             ≡ fin_set.len (set_of T.width (T.number self.old.0)) + (if result then 1 else 0) }
     {
@@ -93,15 +92,15 @@ impl<T: ScalarBitSetStorage> ScalarBitSet<T> {
         true
     }
 
-    /// Takes `i`, which is below `capacity()`, out, and answers whether it was there.
-    /// A port of `ScalarBitSet::remove`.
+    /// Takes `i` out, and returns whether it was there. `i` must be below `capacity()`.
     #[inline]
     pub fn remove(&mut self, i: u8) -> bool
         requires { i < T.width }
         ensures present { result ≡ fin_set.contains (set_of T.width (T.number self.old.0)) i }
-        ensures set { set_of T.width (T.number self.new.0) ≡ fin_set.remove (set_of T.width (T.number self.old.0)) i }
-        ensures count { fin_set.len (set_of T.width (T.number self.new.0)) + (if result then 1 else 0)
-            ≡ fin_set.len (set_of T.width (T.number self.old.0)) }
+        ensures set { set_of T.width (T.number self.new.0)
+            ≡ fin_set.remove (set_of T.width (T.number self.old.0)) i }
+        ensures count { fin_set.len (set_of T.width (T.number self.new.0))
+            + (if result then 1 else 0) ≡ fin_set.len (set_of T.width (T.number self.old.0)) }
     {
         if !self.contains(i) {
             return false;
@@ -110,7 +109,7 @@ impl<T: ScalarBitSetStorage> ScalarBitSet<T> {
         true
     }
 
-    /// Takes every member out. A port of `ScalarBitSet::clear`.
+    /// Takes every member out.
     #[inline]
     pub fn clear(&mut self)
         ensures { set_of T.width (T.number self.new.0) ≡ fin_set.empty }
@@ -118,15 +117,15 @@ impl<T: ScalarBitSetStorage> ScalarBitSet<T> {
         self.0 = T::zero();
     }
 
-    /// Takes the least member out and answers it, or `None` where there is none.
-    /// A port of `ScalarBitSet::pop_min`.
+    /// Takes the least member out and returns it, or `None` if there is none.
     #[inline]
     pub fn pop_min(&mut self) -> Option<u8>
         ensures none { IsNone result ↔ (set_of T.width (T.number self.old.0) ≡ fin_set.empty) }
         ensures stays { IfNone result (self.new ≡ self.old) }
         ensures within { IfSome result (λ x. x < T.width) }
         ensures least { IfSome result (IsLeast (set_of T.width (T.number self.old.0))) }
-        ensures set { IfSome result (λ x. set_of T.width (T.number self.new.0) ≡ fin_set.remove (set_of T.width (T.number self.old.0)) x) }
+        ensures set { IfSome result (λ x. set_of T.width (T.number self.new.0)
+            ≡ fin_set.remove (set_of T.width (T.number self.old.0)) x) }
     {
         match self.min() {
             Some(least) => {
@@ -137,15 +136,15 @@ impl<T: ScalarBitSetStorage> ScalarBitSet<T> {
         }
     }
 
-    /// Takes the greatest member out and answers it, or `None` where there is none.
-    /// A port of `ScalarBitSet::pop_max`.
+    /// Takes the greatest member out and returns it, or `None` if there is none.
     #[inline]
     pub fn pop_max(&mut self) -> Option<u8>
         ensures none { IsNone result ↔ (set_of T.width (T.number self.old.0) ≡ fin_set.empty) }
         ensures stays { IfNone result (self.new ≡ self.old) }
         ensures within { IfSome result (λ x. x < T.width) }
         ensures greatest { IfSome result (IsGreatest (set_of T.width (T.number self.old.0))) }
-        ensures set { IfSome result (λ x. set_of T.width (T.number self.new.0) ≡ fin_set.remove (set_of T.width (T.number self.old.0)) x) }
+        ensures set { IfSome result (λ x. set_of T.width (T.number self.new.0)
+            ≡ fin_set.remove (set_of T.width (T.number self.old.0)) x) }
     {
         match self.max() {
             Some(most) => {
@@ -156,12 +155,13 @@ impl<T: ScalarBitSetStorage> ScalarBitSet<T> {
         }
     }
 
-    /// The least member, or `None` where there is none. A port of `ScalarBitSet::min`.
+    /// The least member, or `None` if there is none. It is the first item of a walk.
     #[inline]
     pub fn min(&self) -> Option<u8>
         ensures none { IsNone result ↔ (set_of T.width (T.number self.now.0) ≡ fin_set.empty) }
         ensures within { IfSome result (λ x. x < T.width) }
         ensures least { IfSome result (IsLeast (set_of T.width (T.number self.now.0))) }
+        ensures first { result ≡ slice_get (members_of T.width (T.number self.now.0)) 0 }
     {
         if self.is_empty() {
             None
@@ -170,12 +170,13 @@ impl<T: ScalarBitSetStorage> ScalarBitSet<T> {
         }
     }
 
-    /// The greatest member, or `None` where there is none. A port of `ScalarBitSet::max`.
+    /// The greatest member, or `None` if there is none. It is the last item of a walk.
     #[inline]
     pub fn max(&self) -> Option<u8>
         ensures none { IsNone result ↔ (set_of T.width (T.number self.now.0) ≡ fin_set.empty) }
         ensures within { IfSome result (λ x. x < T.width) }
         ensures greatest { IfSome result (IsGreatest (set_of T.width (T.number self.now.0))) }
+        ensures last { result ≡ last_or None (members_of T.width (T.number self.now.0)) }
     {
         if self.is_empty() {
             None
@@ -184,7 +185,7 @@ impl<T: ScalarBitSetStorage> ScalarBitSet<T> {
         }
     }
 
-    /// A walk over the members, rising, each once, from either end. A port of `ScalarBitSet::iter`.
+    /// The members, each once, ascending, from either end.
     #[inline]
     pub fn iter(self) -> Iter<T>
         ensures members { result ≡ members_of T.width (T.number self.0) }
@@ -195,7 +196,7 @@ impl<T: ScalarBitSetStorage> ScalarBitSet<T> {
     }
 }
 
-/// The empty set. A port of `impl Default for ScalarBitSet`.
+/// The empty set.
 impl<T: ScalarBitSetStorage> Default for ScalarBitSet<T> {
     ghost is_default = { λ s. set_of T.width (T.number s.0) ≡ fin_set.empty };
 
@@ -205,7 +206,7 @@ impl<T: ScalarBitSetStorage> Default for ScalarBitSet<T> {
     }
 }
 
-/// Two sets are equal exactly where they have the same members. A port of the derived `PartialEq`.
+/// Two sets are equal exactly if they have the same members.
 impl<T: ScalarBitSetStorage> PartialEq for ScalarBitSet<T> {
     ghost eq = { on (λ s. members_of T.width (T.number s.0)) (pointwise nat_eq) };
 
@@ -213,8 +214,10 @@ impl<T: ScalarBitSetStorage> PartialEq for ScalarBitSet<T> {
 
     #[inline]
     fn eq(&self, other: &Self) -> bool
-        ensures value { result ≡ pointwise nat_eq (members_of T.width (T.number self.now.0)) (members_of T.width (T.number other.now.0)) }
-        ensures members { IsTrue result ↔ (set_of T.width (T.number self.now.0) ≡ set_of T.width (T.number other.now.0)) }
+        ensures value { result ≡ pointwise nat_eq (members_of T.width (T.number self.now.0))
+            (members_of T.width (T.number other.now.0)) }
+        ensures members { IsTrue result
+            ↔ (set_of T.width (T.number self.now.0) ≡ set_of T.width (T.number other.now.0)) }
     {
         self.0.is_equal(other.0)
     }
@@ -224,7 +227,7 @@ impl<T: ScalarBitSetStorage> Eq for ScalarBitSet<T> {
     ghost laws = { on_equiv (λ s. members_of T.width (T.number s.0)) nat_list_eq_equiv };
 }
 
-/// The set of the places of a number whose digit is 1. A port of `impl From<T> for ScalarBitSet<T>`.
+/// The places of the digits 1 of an integer.
 impl<T: ScalarBitSetStorage> From<T> for ScalarBitSet<T> {
     ghost from_gives = { λ bits s. s.0 ≡ bits };
 
@@ -234,7 +237,7 @@ impl<T: ScalarBitSetStorage> From<T> for ScalarBitSet<T> {
     }
 }
 
-/// The members, rising. A port of `impl IntoIterator for ScalarBitSet`.
+/// The members, ascending.
 impl<T: ScalarBitSetStorage> IntoIterator for ScalarBitSet<T> {
     type Item = u8;
 
@@ -248,7 +251,7 @@ impl<T: ScalarBitSetStorage> IntoIterator for ScalarBitSet<T> {
     }
 }
 
-/// The members, rising. A port of `impl IntoIterator for &ScalarBitSet`.
+/// The members, ascending.
 impl<'a, T: ScalarBitSetStorage> IntoIterator for &'a ScalarBitSet<T> {
     type Item = u8;
 

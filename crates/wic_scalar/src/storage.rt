@@ -7,20 +7,19 @@ ghost use Rattle.wic_scalar.specs.Scalar.{members_of};
 
 /// An unsigned integer that holds a set, by its digits in base two: digit 0 is the lowest.
 ///
-/// Each law is a clause of a call, about the values that are passed. A port of
-/// `cranelift_bitset::scalar::ScalarBitSetStorage`: the operators that the trait asks for there are
-/// calls here, so that each has its law, and `width`, `zero`, `bit` and `below` are its own.
+/// Each law is a clause of a call, about the values that are passed. The operators that the original requires are calls here,
+/// so that each has its law; `width`, `zero`, `bit` and `below` are added.
 pub trait ScalarBitSetStorage: Copy {
-    /// How many digits each value has.
+    /// The number of digits of each value.
     ghost width: { ℕ };
 
-    /// The number that a value is.
+    /// The value as a number.
     ghost number: { Self → ℕ };
 
-    /// Each value has a digit, and at most 128.
+    /// The width is from 1 to 128.
     ghost width_within: { IsWidth width };
 
-    /// How many digits each value has: 8 for `u8`, and so on; 64 for `usize`.
+    /// The number of digits of each value: 8 for `u8`, and so on; 64 for `usize`.
     fn width() -> u8
         ensures value { result ≡ width }
         ensures positive { 0 < width };
@@ -39,15 +38,17 @@ pub trait ScalarBitSetStorage: Copy {
         requires { n ≤ width }
         ensures { (k : ℕ) → is_one (number result) k ≡ nat_lt k n };
 
-    /// Digit by digit, 1 where both are.
+    /// Digit by digit, 1 if both are.
     fn bit_and(self, other: Self) -> Self
-        ensures { (k : ℕ) → is_one (number result) k ≡ (is_one (number self) k && is_one (number other) k) };
+        ensures { (k : ℕ) → is_one (number result) k
+            ≡ (is_one (number self) k && is_one (number other) k) };
 
-    /// Digit by digit, 1 where either is.
+    /// Digit by digit, 1 if either is.
     fn bit_or(self, other: Self) -> Self
-        ensures { (k : ℕ) → is_one (number result) k ≡ (is_one (number self) k || is_one (number other) k) };
+        ensures { (k : ℕ) → is_one (number result) k
+            ≡ (is_one (number self) k || is_one (number other) k) };
 
-    /// Digit by digit, 1 where it was 0.
+    /// Digit by digit, 1 if it was 0.
     fn bit_not(self) -> Self
         ensures { (k : ℕ) → k < width → is_one (number result) k ≡ not (is_one (number self) k) };
 
@@ -55,20 +56,20 @@ pub trait ScalarBitSetStorage: Copy {
     fn is_equal(self, other: Self) -> bool
         ensures { IsTrue result ↔ SameDigits width (number self) (number other) };
 
-    /// How many digits 0 stand above the highest digit 1: the width for 0.
+    /// The number of digits 0 above the highest digit 1: the width for 0.
     fn leading_zeros(self) -> u8
         ensures { IsHighZeros width (number self) result };
 
-    /// How many digits 0 stand below the lowest digit 1: the width for 0.
+    /// The number of digits 0 below the lowest digit 1: the width for 0.
     fn trailing_zeros(self) -> u8
         ensures { IsLowZeros width (number self) result };
 
-    /// How many digits are 1.
+    /// The number of digits 1.
     fn count_ones(self) -> u8
         ensures { result ≡ length (members_of width (number self)) };
 }
 
-#[tactic(auto, using(crate::proofs::Widths::laws_8))]
+#[tactic(auto, using(crate::proofs::WidthFacts::laws_8))]
 impl ScalarBitSetStorage for u8 {
     ghost width = { 8 };
 
@@ -132,7 +133,7 @@ impl ScalarBitSetStorage for u8 {
     }
 }
 
-#[tactic(auto, using(crate::proofs::Widths::laws_16))]
+#[tactic(auto, using(crate::proofs::WidthFacts::laws_16))]
 impl ScalarBitSetStorage for u16 {
     ghost width = { 16 };
 
@@ -196,7 +197,7 @@ impl ScalarBitSetStorage for u16 {
     }
 }
 
-#[tactic(auto, using(crate::proofs::Widths::laws_32))]
+#[tactic(auto, using(crate::proofs::WidthFacts::laws_32))]
 impl ScalarBitSetStorage for u32 {
     ghost width = { 32 };
 
@@ -260,7 +261,7 @@ impl ScalarBitSetStorage for u32 {
     }
 }
 
-#[tactic(auto, using(crate::proofs::Widths::laws_64))]
+#[tactic(auto, using(crate::proofs::WidthFacts::laws_64))]
 impl ScalarBitSetStorage for u64 {
     ghost width = { 64 };
 
@@ -324,7 +325,7 @@ impl ScalarBitSetStorage for u64 {
     }
 }
 
-#[tactic(auto, using(crate::proofs::Widths::laws_128))]
+#[tactic(auto, using(crate::proofs::WidthFacts::laws_128))]
 impl ScalarBitSetStorage for u128 {
     ghost width = { 128 };
 
@@ -388,7 +389,7 @@ impl ScalarBitSetStorage for u128 {
     }
 }
 
-#[tactic(auto, using(crate::proofs::Widths::laws_64))]
+#[tactic(auto, using(crate::proofs::WidthFacts::laws_64))]
 impl ScalarBitSetStorage for usize {
     ghost width = { 64 };
 

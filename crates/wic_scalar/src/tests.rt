@@ -1,7 +1,7 @@
 //! The worked examples, and each call over every set of `u16` against a plain list of bits.
 ghost use Rattle.std.specs.Prelude.{◌<◌, ◌≤◌};
 
-use crate::callers::take_least;
+use crate::callers::{starts_at_the_least, take_least, taken_in_range, walked_count};
 use crate::{ScalarBitSet, ScalarBitSetStorage};
 use std::alloc::{AllocError, Global};
 use std::process::Abort;
@@ -58,6 +58,7 @@ fn a_range_has_the_numbers_from_its_start_to_below_its_end(rt: HostRuntime) -> R
     assert_eq!(rt; ScalarBitSet::<u128>::from_range(0, 128).len(), 128);
     let few = walked(rt.alloc(), ScalarBitSet::<u64>::from_range(3, 6))?;
     assert_eq!(rt; few.as_slice(), [3, 4, 5].as_slice());
+    assert_eq!(rt; taken_in_range(3, 6), 3);
     assert!(rt; ScalarBitSet::<u8>::from_range(0, 0).is_empty());
     assert!(rt; ScalarBitSet::<u8>::from_range(8, 8).is_empty());
     assert!(rt; ScalarBitSet::<u128>::from_range(128, 128).is_empty());
@@ -86,6 +87,8 @@ fn a_walk_rises_and_gives_one_from_the_back(rt: HostRuntime) -> Result<(), Fail>
     assert_eq!(rt; walk.next_back(), Some(63));
     assert_eq!(rt; walk.len(), 3);
     assert_eq!(rt; walk.size_hint(), (3, Some(3)));
+    assert_eq!(rt; walked_count(set), 4);
+    assert!(rt; starts_at_the_least(set));
     Ok(())
 }
 
@@ -124,7 +127,7 @@ fn each_storage_holds_its_edges(rt: HostRuntime) {
     holds_its_edges::<usize>(&rt, 63);
 }
 
-// What the set answers as a whole, against its places.
+// The set as a whole, against its places.
 fn matches_whole(rt: &impl Abort, set: ScalarBitSet<u16>, places: &[u8], members: &[u8]) {
     assert_eq!(rt; members, places);
     assert_eq!(rt; set.len() as usize, places.len());
@@ -138,7 +141,7 @@ fn matches_whole(rt: &impl Abort, set: ScalarBitSet<u16>, places: &[u8], members
     assert_eq!(rt; cleared.0, 0);
 }
 
-// What comes from either end, one by one.
+// The members from either end, one by one.
 fn matches_ends(rt: &impl Abort, set: ScalarBitSet<u16>, places: &[u8]) {
     let mut rising = set;
     for place in places {
@@ -156,7 +159,7 @@ fn matches_ends(rt: &impl Abort, set: ScalarBitSet<u16>, places: &[u8]) {
     assert_eq!(rt; back.next(), None);
 }
 
-// What the calls at one place answer and leave.
+// The calls at one place: what they return and leave.
 fn matches_place(rt: &impl Abort, set: ScalarBitSet<u16>, bits: &[bool; 16], place: u8)
     requires { place < 16 }
 {

@@ -1,6 +1,5 @@
-pub mod DrainLemmas
-pub mod EntryLemmas
-pub mod LiveLemmas
-pub mod OrderLemmas
-pub mod SoundLemmas
-pub mod StepLemmas
+pub mod DrainFacts
+pub mod EntryFacts
+pub mod OrderFacts
+pub mod SoundFacts
+pub mod StepFacts

@@ -6,7 +6,7 @@ use Rattle.std.specs.Iterator.{YieldsFirst, Yields}
 use Rattle.wic_slab.specs.declared.drain.Drain.{Drain}
 
 module _ {T : Type 0} where
-  -- the ids with their values that are still to come, ids rising
+  -- the ids with their values that are still to come, in ascending order of the ids
   abbrev pub drain_pairs : Drain T → List (ℕ × T)
   drain_pairs d = entries d.slab.now.live
 

@@ -22,7 +22,7 @@ module _ {T : Type 0} where
   link_of (Occupied _) = 0
   link_of (Vacant next) = next
 
-  -- the values of the entries, each with its place, where the first entry has this one
+  -- the values of the entries, each with its place; the first entry has this place
   abbrev pub pairs_from : ℕ → List (Entry T) → List (ℕ × T)
   pairs_from place [] = []
   pairs_from place (Occupied value ∷ rest) = (place, value) ∷ pairs_from (place + 1) rest

@@ -4,7 +4,7 @@ use Rattle.std.specs.Ordering.{nat_cmp}
 use Rattle.std.specs.FinMap.{FinMap, get, contains_key, insert, remove}
 use Rattle.wic_slab.specs.Order.{Order, max_capacity, next_id, take_next, give_back, IsOrder, BelongsTo}
 
--- a live id is given back, and its value is allocated: the answer is that id, and map and order are as before both
+-- a live id is freed, and its value is allocated again: the result is that id, and map and order are as before both
 abbrev pub AllocationUndoesGivingBack : Type 0 → Type 0
 AllocationUndoesGivingBack T =
     (order : Order) (live : FinMap nat_cmp T) (id : ℕ) (value : T)
@@ -14,7 +14,7 @@ AllocationUndoesGivingBack T =
     × (insert (remove live id) (next_id given_back) value ≡ live)
     × (take_next given_back ≡ order)
 
--- a value is allocated, and its id is given back: map and order are as before both
+-- a value is allocated, and its id is freed: map and order are as before both
 abbrev pub GivingBackUndoesAllocation : Type 0 → Type 0
 GivingBackUndoesAllocation T =
     (order : Order) (live : FinMap nat_cmp T) (value : T)
@@ -24,7 +24,7 @@ GivingBackUndoesAllocation T =
     × (give_back (take_next order) id ≡ order)
 
 -- an order that belongs to the live ids does so again once its next id is taken, below the limit, and once a live id is
--- given back
+-- freed
 abbrev pub StaysAnOrder : Type 0 → Type 0
 StaysAnOrder T =
     (order : Order) (live : FinMap nat_cmp T)

@@ -1,9 +1,10 @@
--- The order in which a slab hands out its ids. Two equal orders hand out the same ids for ever.
+-- The order in which a slab hands out its ids. Two equal orders hand out the same ids forever.
 use Rattle.std.specs.Prelude.{◌≢◌, ◌≡◌, ℕ, ◌+◌, ◌<◌, ◌≤◌, ◌==◌, Bool, not, ◌&&◌, nat_eq, nat_lt, if◌then◌else◌, List, [], ◌∷◌}
 use Rattle.std.specs.Prelude.{slice_index_or}
 use Rattle.std.specs.List.{AllByRecursion, IsDistinct, list_any}
 use Rattle.std.specs.Ordering.{nat_cmp}
 use Rattle.std.specs.FinMap.{FinMap, contains_key}
+use Rattle.wic_slab.specs.declared.slab.TheConstants.{MAX_CAPACITY}
 
 -- the vacant ids, the next one first, and the first fresh id: it and those above it are vacant too, in their order
 pub record Order : Type 0 where
@@ -12,13 +13,13 @@ pub record Order : Type 0 where
 
 -- the greatest number of live ids
 abbrev pub max_capacity : ℕ
-max_capacity = 4294967294
+max_capacity = MAX_CAPACITY
 
 -- ids start at 0
 abbrev pub from_zero : Order
 from_zero = record { vacant = []; fresh = 0 }
 
--- the id that the next allocation answers
+-- the id that the next allocation returns
 abbrev pub next_id : Order → ℕ
 next_id o = slice_index_or o.vacant 0 o.fresh
 
@@ -35,12 +36,12 @@ give_to [] fresh id =
     if id + 1 == fresh then record { vacant = []; fresh = id } else record { vacant = id ∷ []; fresh = fresh }
 give_to (next ∷ vacant) fresh id = record { vacant = id ∷ next ∷ vacant; fresh = fresh }
 
--- the order once this id is given back: it is the next one. The last id below the fresh ones is fresh again,
--- where no id is vacant among those below it
+-- the order once this id is freed: it is the next one. The last id below the fresh ones is fresh again if no id
+-- below it is vacant
 abbrev pub give_back : Order → ℕ → Order
 give_back o id = give_to o.vacant o.fresh id
 
--- the last of a list, or this number where the list is empty
+-- the last of a list, or this number if the list is empty
 abbrev pub last_or : ℕ → List ℕ → ℕ
 last_or otherwise [] = otherwise
 last_or otherwise (id ∷ ids) = last_or id ids

@@ -1,12 +1,12 @@
 -- What a contract sees of a `Slab`.
-use Rattle.std.specs.Prelude.{◌≡◌, ℕ, ◌+◌, ◌≤◌, List, length, false, Some, IsTrue, refl}
+use Rattle.std.specs.Prelude.{◌≡◌, ℕ, ◌+◌, ◌≤◌, List, length, false, Some, Result, IsTrue, refl}
 use Rattle.std.specs.Ordering.{nat_cmp}
 use Rattle.std.specs.FinMap.{FinMap, code, get, contains_key, insert, remove, len}
 use Rattle.std.specs.Coded.{Coded, code_by, coded×, coded_ℕ, coded_list}
+use Rattle.wic_vec.specs.Room.{MakesRoom}
 use Rattle.wic_slab.specs.Order.{Order, max_capacity, next_id, take_next, give_back, IsOrder, BelongsTo}
 
--- the live ids with their values, the order in which further ids come, and how many values fit with no request for
--- memory
+-- the live ids with their values, the order in which further ids come, and how many values fit without an allocation
 pub record Slab (T : Type 0) : Type 0 where
   pub live : FinMap nat_cmp T
   pub order : Order
@@ -27,11 +27,15 @@ module _ {T : Type 0} where
   abbrev pub IsLive : Slab T → ℕ → Type 0
   IsLive s id = IsTrue (contains_key s.live id)
 
-  -- so many more values fit with no request for memory
+  -- so many more values fit without an allocation
   abbrev pub HasRoomFor : Slab T → ℕ → Type 0
   HasRoomFor s more = len s.live + more ≤ s.capacity
 
-  -- the slab with this value under the id, where there was one
+  -- room is made for so many more values than are live
+  abbrev pub Reserves : {A E : Type 0} → Slab T → Slab T → ℕ → Result A E → Type 0
+  Reserves old new more result = MakesRoom (λ s. len s.live) (λ s. s.capacity) old new more result
+
+  -- the slab with this value under the id, if there was one
   abbrev pub with_value : Slab T → ℕ → T → Slab T
   with_value s id value = record s { live = insert s.live id value }
 
@@ -62,12 +66,12 @@ module _ {T : Type 0} where
     pub belonged : BelongsTo old.order old.live
     pub is_slab : IsSlab new
 
-  -- what giving this id back makes of a slab
+  -- what freeing this id makes of a slab
   pub record GivesBack (old new : Slab T) (id : ℕ) : Type 0 where
     -- the order has the id at its front
     pub order : new.order ≡ give_back old.order id
     pub comes_next : next_id new.order ≡ id
-    -- it is live no more, and the other ids are as before
+    -- it is no longer live, and the other ids are as before
     pub live : new.live ≡ remove old.live id
     pub one_less : len new.live + 1 ≡ len old.live
     pub capacity_stays : new.capacity ≡ old.capacity

@@ -7,7 +7,7 @@ ghost use Rattle.wic_slab.specs.Slab.{IsLive};
 use crate::{Id, MAX_CAPACITY, Slab, law_give_back, law_take_back};
 use wic_base::OutOfMemory;
 
-// Both values are held or none: the room is made before the first one is held, so neither is refused then.
+// Holds both values or none: the room is reserved before the first one is held, so neither is refused then.
 pub fn hold_both<T: Drop>(slab: &mut Slab<T>, first: T, second: T) -> Result<(Id, Id), OutOfMemory>
     ensures first { IfOk result (λ ids. get slab.new.live ids.0 ≡ Some first) }
     ensures second { IfOk result (λ ids. get slab.new.live ids.1 ≡ Some second) }

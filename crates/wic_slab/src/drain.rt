@@ -10,10 +10,8 @@ use crate::id::Id;
 use crate::slab::Slab;
 use std::iter::FusedIterator;
 
-/// Gives the live ids of a slab, rising, each with its value, and takes them out of it. The slab is empty once this
-/// is dropped, wherever it stands then.
-///
-/// A port of what `Slab::drain` answers, which has no name there.
+/// Gives the live ids of a slab, ascending, each with its value, and takes them out of it. The slab is empty once this
+/// is dropped, wherever it stands then. In Rust this type has no name.
 pub struct Drain<'a, T: Drop> {
     slab: &'a mut Slab<T>,
     // The places that are still to be visited.
@@ -24,10 +22,9 @@ pub struct Drain<'a, T: Drop> {
 impl<T: Drop> Slab<T> {
     ghost use Rattle.wic_slab.specs.Drain.{drain_pairs, drain_capacity, drain_lender, DrainCanStep, DrainSteps, DrainKeepsAlong};
 
-    /// Takes out all values, and gives the pairs that `iter` gives, by value. Once the answer is dropped, wherever it
-    /// stands then, no id is live, ids start at 0, and the capacity is as before.
-    ///
-    /// A port of `Slab::drain`, which leaves the order open.
+    /// Takes out all values, and gives the pairs that `iter` gives, by value. Once the result is dropped, wherever it
+    /// stands then, no id is live, ids start at 0, and the capacity is as before. Rust's `Slab::drain` leaves the order
+    /// open.
     pub fn drain(&mut self) -> Drain<'_, T>
         ensures pairs { drain_pairs result ≡ entries self.old.live }
         ensures rising { IsTrue (is_sorted nat_cmp (drain_pairs result)) }

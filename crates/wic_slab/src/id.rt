@@ -24,7 +24,7 @@ impl Model for Id {
 }
 
 impl Id {
-    /// The id's number. A port of `Id::into_raw`.
+    /// The id's number.
     pub fn into_raw(self) -> u32
         ensures number { result ≡ self }
         ensures at_most { result ≤ max_capacity }
@@ -33,8 +33,6 @@ impl Id {
     }
 
     /// The id of this number, or `None` exactly for 4294967295, which no id has. The id need not be live in any slab.
-    ///
-    /// A port of `Id::try_from_raw`.
     pub fn try_from_raw(raw: u32) -> Option<Id>
         ensures some { IsSome result ↔ (raw ≤ max_capacity) }
         ensures number { IfSome result (λ id. id ≡ raw) }

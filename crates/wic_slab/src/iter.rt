@@ -1,4 +1,4 @@
-//! The values of a slab one by one, ids rising.
+//! The values of a slab one by one, in ascending order of the ids.
 ghost use Rattle.std.specs.Prelude.{◌≡◌, length, IsTrue};
 ghost use Rattle.std.specs.Ordering.{nat_cmp};
 ghost use Rattle.std.specs.Iterator.{YieldsFirstBy, item_count};
@@ -9,10 +9,8 @@ use crate::slab::{Entry, Slab};
 use std::iter::FusedIterator;
 use std::marker::Model;
 
-/// Gives the live ids of a slab, rising, each with its value to be read. A contract sees the pairs that are still to
-/// come.
-///
-/// A port of what `Slab::iter` answers, which has no name there.
+/// Gives the live ids of a slab, ascending, each with its value to be read. A contract sees the pairs that are still to
+/// come. In Rust this type has no name.
 #[derive(Drop)]
 pub struct Iter<'a, T> {
     entries: &'a [Entry<T>],
@@ -34,9 +32,7 @@ impl<'a, T> Model for Iter<'a, T> {
 }
 
 impl<T> Slab<T> {
-    /// The live ids, rising, each with its value to be read. It ends.
-    ///
-    /// A port of `Slab::iter`, which leaves the order open.
+    /// The live ids, ascending, each with its value to be read. It ends. Rust's `Slab::iter` leaves the order open.
     pub fn iter(&self) -> Iter<'_, T>
         ensures pairs { result ≡ entries self.now.live }
         ensures rising { IsTrue (is_sorted nat_cmp result) }

@@ -5,7 +5,7 @@ ghost use Rattle.std.specs.Option.{option_copied_mut};
 ghost use Rattle.std.specs.Borrow.{Lends, sem};
 ghost use Rattle.std.specs.FinMap.{empty, get, insert, remove, contains_key, len};
 ghost use Rattle.wic_slab.specs.Order.{max_capacity, from_zero, next_id, take_next, give_back};
-ghost use Rattle.wic_slab.specs.Slab.{IsLive, HasRoomFor, IsSlab, Holds, GivesBack};
+ghost use Rattle.wic_slab.specs.Slab.{IsLive, HasRoomFor, Reserves, IsSlab, Holds, GivesBack};
 
 use crate::id::Id;
 use std::alloc::Global;
@@ -19,12 +19,12 @@ use wic_vec::TryVec;
 /// Values, each under an id that the slab picks.
 ///
 /// A contract sees the live ids with their values, the hand-out order of further ids, and the capacity: how many
-/// values fit with no request for memory. An id that is given back is handed out again, the last one given back
-/// first. A port of `wasmtime_internal_core::slab::Slab`.
+/// values fit without an allocation. Freed ids are reused last-in, first-out. A port of
+/// `wasmtime_internal_core::slab::Slab`.
 #[derive(Drop)]
 pub struct Slab<T> {
     pub(crate) entries: TryVec<Entry<T>>,
-    // The first entry of the list of vacant ones, or the number of entries where none is vacant.
+    // The first entry of the list of vacant ones, or the number of entries if none is vacant.
     next: u32,
     // The first fresh id. It and the entries above it were never taken, or are as if they had not been.
     fresh: u32,
@@ -35,7 +35,7 @@ pub struct Slab<T> {
 #[derive(Drop)]
 pub(crate) enum Entry<T> {
     Occupied(T),
-    // The vacant entry after this one, or the number of entries where this is the last one.
+    // The vacant entry after this one, or the number of entries if this is the last one.
     Vacant(u32),
 }
 
@@ -68,7 +68,8 @@ impl<T> Entry<T> {
     // The value of an occupied entry.
     fn value_mut(&mut self) -> &mut T
         requires { IsSome (value_of self.old) }
-        ensures* writes_back { sem 𝓛 (Lends (the_row T.row) T.row self.entry result Entry.Occupied) }
+        ensures* writes_back { sem 𝓛
+            (Lends (the_row T.row) T.row self.entry result Entry.Occupied) }
         ensures value { value_of self.old ≡ Some result.now }
     {
         match self {
@@ -81,8 +82,8 @@ impl<T> Entry<T> {
 // What the first growth makes room for.
 const MIN_CAPACITY: usize = 16;
 
-/// The greatest capacity of a slab, and so the greatest number of its values. A caller's proof knows this number; that
-/// of `Slab::MAX_CAPACITY`, which is the same for every type of value, it doesn't.
+/// The greatest capacity of a slab, and so the greatest number of its values. A caller's proof knows this number, but not
+/// that of `Slab::MAX_CAPACITY`, which is the same for every type of value.
 pub const MAX_CAPACITY: usize = 4294967294;
 
 impl<T> Slab<T> {
@@ -91,9 +92,7 @@ impl<T> Slab<T> {
     /// The greatest capacity, and so the greatest number of values. A port of `Slab::MAX_CAPACITY`.
     pub const MAX_CAPACITY: usize = MAX_CAPACITY;
 
-    /// The empty slab, of capacity 0, whose ids start at 0. It takes no memory.
-    ///
-    /// A port of `Slab::new`.
+    /// The empty slab, of capacity 0, whose ids start at 0. It allocates nothing.
     pub fn new(alloc: Global) -> Slab<T>
         ensures empty { result.live ≡ empty }
         ensures order { result.order ≡ from_zero }
@@ -109,8 +108,6 @@ impl<T> Slab<T> {
 
     /// The empty slab with room for at least `capacity` values, which is at most `MAX_CAPACITY`. A capacity of 0 is never
     /// refused.
-    ///
-    /// A port of `Slab::with_capacity`.
     pub fn with_capacity(alloc: Global, capacity: usize) -> Result<Slab<T>, OutOfMemory>
         requires { capacity ≤ max_capacity }
         ensures empty { IfOk result (λ s. s.live ≡ empty) }
@@ -127,20 +124,13 @@ impl<T> Slab<T> {
     }
 
     /// Makes room for `additional` more values than are live: `len() + additional` is at most `MAX_CAPACITY`. The live ids,
-    /// their values and the hand-out order stay, and so does the capacity where it is enough. It is refused only where the
-    /// capacity is too small, and then nothing changes. It asks for memory once.
-    ///
-    /// A port of `Slab::reserve`.
+    /// their values and the hand-out order stay. If the capacity is enough, nothing changes. A refusal comes only if it is
+    /// too small, and leaves the slab as it was. It allocates at most once.
     pub fn reserve(&mut self, additional: usize) -> Result<(), OutOfMemory>
         requires { len self.old.live + additional ≤ max_capacity }
         ensures same_live { self.new.live ≡ self.old.live }
         ensures same_order { self.new.order ≡ self.old.order }
-        ensures room { OnOk result (HasRoomFor self.new additional) }
-        ensures never_refused_within { HasRoomFor self.old additional → IsOk result }
-        ensures refused_only_beyond { OnErr result (self.old.capacity < len self.old.live + additional) }
-        ensures unchanged_within { HasRoomFor self.old additional → self.new ≡ self.old }
-        ensures capacity_never_falls { self.old.capacity ≤ self.new.capacity }
-        ensures refusal_leaves { OnErr result (self.new ≡ self.old) }
+        ensures reserves { Reserves self.old self.new additional result }
     {
         let wanted = self.len() + additional;
         if wanted <= self.entries.capacity() {
@@ -149,9 +139,8 @@ impl<T> Slab<T> {
         self.entries.reserve(wanted - self.entries.len())
     }
 
-    /// How many values fit with no request for memory, the live ones among them.
-    ///
-    /// A port of `Slab::capacity`, which may be less than the room that the entries have.
+    /// How many values fit without an allocation, the live ones among them. It is at most `MAX_CAPACITY`, even if the
+    /// entries have more room.
     pub fn capacity(&self) -> usize
         ensures capacity { result ≡ self.now.capacity }
         ensures holds_all { len self.now.live ≤ result }
@@ -160,7 +149,7 @@ impl<T> Slab<T> {
         self.entries.capacity().min(MAX_CAPACITY)
     }
 
-    /// The number of live ids. A port of `Slab::len`.
+    /// The number of live ids.
     pub fn len(&self) -> usize
         ensures live { result ≡ len self.now.live }
         ensures within { result ≤ self.now.capacity }
@@ -169,17 +158,15 @@ impl<T> Slab<T> {
         self.len as usize
     }
 
-    /// Whether no id is live. A port of `Slab::is_empty`.
+    /// Whether no id is live.
     pub fn is_empty(&self) -> bool
         ensures empty { result ≡ (len self.now.live == 0) }
     {
         self.len == 0
     }
 
-    /// The id that the next allocation that succeeds answers. With `MAX_CAPACITY` live ids it is 4294967294, which
-    /// is never given.
-    ///
-    /// A port of `Slab::next_id`.
+    /// The id that the next allocation that succeeds returns. With `MAX_CAPACITY` live ids it is 4294967294, which
+    /// is never handed out.
     pub fn next_id(&self) -> Id
         ensures next { result ≡ next_id self.now.order }
         ensures not_live { contains_key self.now.live result ≡ false }
@@ -189,10 +176,8 @@ impl<T> Slab<T> {
         Id::at(self.next)
     }
 
-    /// Holds `value` under the next id and answers that id, or hands `value` back exactly where the live ids are as
-    /// many as the capacity. It takes no memory, and the capacity stays.
-    ///
-    /// A port of `Slab::try_alloc`.
+    /// Holds `value` under the next id and returns that id, or hands `value` back exactly when the live ids are as
+    /// many as the capacity. It never allocates, and the capacity stays.
     pub fn try_alloc(&mut self, value: T) -> Result<Id, T>
         ensures full { IsErr result ↔ (len self.old.live ≡ self.old.capacity) }
         ensures holds { IfOk result (Holds self.old self.new value) }
@@ -206,19 +191,17 @@ impl<T> Slab<T> {
         Ok(self.take_next(value))
     }
 
-    /// Holds `value` under the next id and answers that id. `len()` is below `MAX_CAPACITY`. It is refused only where the live
+    /// Holds `value` under the next id and returns that id. `len()` is below `MAX_CAPACITY`. A refusal comes only if the live
     /// ids are as many as the capacity, and so never after a `reserve` for it: then `value` is dropped and nothing else
-    /// changes. Where it asks for memory, it is for as many values again, and for 16 at least, as far as `MAX_CAPACITY`
-    /// allows.
-    ///
-    /// A port of `Slab::alloc`.
+    /// changes. When it allocates, it is for twice the values, and at least for 16 more, as far as `MAX_CAPACITY` allows.
     pub fn alloc(&mut self, value: T) -> Result<Id, OutOfMemory>
     where
         T: Drop,
         requires { len self.old.live < max_capacity }
         ensures holds { IfOk result (Holds self.old self.new value) }
         ensures refused_only_full { OnErr result (len self.old.live ≡ self.old.capacity) }
-        ensures capacity_kept_below { len self.old.live < self.old.capacity → self.new.capacity ≡ self.old.capacity }
+        ensures capacity_kept_below { len self.old.live < self.old.capacity
+            → self.new.capacity ≡ self.old.capacity }
         ensures capacity_never_falls { self.old.capacity ≤ self.new.capacity }
         ensures refusal_leaves { OnErr result (self.new ≡ self.old) }
     {
@@ -231,7 +214,7 @@ impl<T> Slab<T> {
         }
     }
 
-    // Makes room for twice as many values, and for 16 at least, as far as the limit allows.
+    // Makes room for twice as many values, and at least for 16 more, as far as the limit allows.
     fn grow(&mut self) -> Result<(), OutOfMemory>
         requires { len self.old.live < max_capacity }
         ensures same_live { self.new.live ≡ self.old.live }
@@ -244,7 +227,7 @@ impl<T> Slab<T> {
         self.reserve(doubled.min(MAX_CAPACITY - self.len()))
     }
 
-    // An allocation where there is room.
+    // An allocation when there is room.
     fn take_next(&mut self, value: T) -> Id
         requires { HasRoomFor self.old 1 }
         ensures holds { Holds self.old self.new value result }
@@ -265,7 +248,7 @@ impl<T> Slab<T> {
         Id::at(next)
     }
 
-    /// The value held under `id`, or `None` exactly where `id` isn't live. A port of `Slab::get`.
+    /// The value held under `id`, or `None` exactly when `id` isn't live.
     pub fn get(&self, id: Id) -> Option<&T>
         ensures live { IsSome result ↔ IsLive self.now id }
         ensures value { option_copied result ≡ get self.now.live id }
@@ -277,10 +260,8 @@ impl<T> Slab<T> {
         }
     }
 
-    /// The value held under `id`, to be read and written, or `None` exactly where `id` isn't live. What is written
-    /// is the value that `id` then has. All else stays, and at `None` all does.
-    ///
-    /// A port of `Slab::get_mut`.
+    /// The value held under `id`, to be read and written, or `None` exactly when `id` isn't live. Writes through the
+    /// reference change that value; all else stays, and at `None` all does.
     pub fn get_mut(&mut self, id: Id) -> Option<&mut T>
         ensures* writes_back { sem 𝓛 (lends_get T.row self.entry id result) }
         ensures live { IsSome result ↔ IsLive self.old id }
@@ -310,17 +291,15 @@ impl<T> Slab<T> {
         self.entries[id.place()].value_mut()
     }
 
-    /// Whether `id` is live. A port of `Slab::contains`.
+    /// Whether `id` is live.
     pub fn contains(&self, id: Id) -> bool
         ensures live { result ≡ contains_key self.now.live id }
     {
         self.get(id).is_some()
     }
 
-    /// Takes out the value held under `id`, which is live, as `contains` tells, and gives `id` back: it is the id of the next
+    /// Takes out the value held under `id`, which is live (test with `contains`), and frees `id`: it is the id of the next
     /// allocation. The capacity stays.
-    ///
-    /// A port of `Slab::dealloc`.
     pub fn dealloc(&mut self, id: Id) -> T
         requires { IsLive self.old id }
         ensures value { get self.old.live id ≡ Some result }
@@ -342,8 +321,6 @@ impl<T> Slab<T> {
 
 impl<T: Drop> Slab<T> {
     /// Drops all values. No id is live then, ids start at 0 again, and the capacity stays.
-    ///
-    /// A port of `Slab::clear`.
     pub fn clear(&mut self)
         ensures empty { self.new.live ≡ empty }
         ensures order { self.new.order ≡ from_zero }
@@ -356,7 +333,7 @@ impl<T: Drop> Slab<T> {
     }
 }
 
-/// The value held under a live id. A port of `Slab`'s `Index<Id>`.
+/// The value held under a live id.
 impl<T> Index<Id> for Slab<T> {
     type Output = T;
 
@@ -369,8 +346,8 @@ impl<T> Index<Id> for Slab<T> {
     }
 }
 
-/// The value held under a live id, to be read and written. What is written is the value that the id then has, and
-/// all else stays. A port of `Slab`'s `IndexMut<Id>`.
+/// The value held under a live id, to be read and written. Writes through the reference change that value, and all
+/// else stays.
 impl<T> IndexMut<Id> for Slab<T> {
     ghost use Rattle.wic_slab.specs.Lends.{lends_value};
 
@@ -383,7 +360,7 @@ impl<T> IndexMut<Id> for Slab<T> {
     }
 }
 
-/// The live ids, each with its value. A port of `Slab`'s `Debug`.
+/// The live ids, each with its value.
 impl<T: fmt::Debug> fmt::Debug for Slab<T> {
     fn fmt<W: fmt::Write>(&self, f: &mut fmt::Formatter<W>) -> fmt::Result {
         f.debug_map().entries(self.iter()).finish()
@@ -393,7 +370,7 @@ impl<T: fmt::Debug> fmt::Debug for Slab<T> {
 // An entry of a number of eight bytes takes no more than sixteen.
 const _: () = prove!(size_of::<Entry<u64>>() <= 16);
 
-// The first fresh id once `id` is given back, where so many ids are live. With as many as the first fresh id no id
+// The first fresh id once `id` is freed while `live` ids are live. If they are as many as the first fresh id, no id
 // below it is vacant.
 fn fresh_after(fresh: u32, live: u32, id: u32) -> u32
     requires { id < fresh }

@@ -1,9 +1,9 @@
 -- The run of a closure, from what std says of the calls.
-use Rattle.std.proofs.Common.{◌≡◌, ◌-◌, ℕ, arith, Bool, true, false, List, [], ◌∷◌, ◌++◌, length}
-use Rattle.std.proofs.Common.{length-append, length-take, take, replicate, refl, ap, subst, ◌∙◌, filter, Result, Ok, OnOk}
+use Rattle.std.proofs.Common.{◌≡◌, ◌-◌, ℕ, arith, zero, suc, Bool, true, false, List, [], ◌∷◌, ◌++◌, length}
+use Rattle.std.proofs.Common.{length-append, length-take, take, map, replicate, refl, sym, ap, subst, ◌∙◌, filter, Result, Ok, OnOk}
 use Rattle.std.specs.List.{items_where_true, FoldsTo, AppendsResults}
 use Rattle.std.specs.List.Retain.{ReturnsInTurn, IsFiltered, RetainsInTurn}
-use Rattle.wic_vec.specs.ClosureRun.{ClosureRun, Retains, RetainsMut, AppendsAnswers}
+use Rattle.wic_vec.specs.ClosureRun.{ClosureRun, Retains, RetainsMut, AppendsAnswers, answers_and_leaves, left_where_true}
 
 -- what is said of an Ok, of a result that is one
 pub given_ok : {V E P : Type 0} → (r : Result V E) (v : V) → r ≡ Ok v → OnOk r P → P
@@ -72,3 +72,60 @@ filter_from_retains {F} {X} call test f told xs ys kept = kept.3 ∙ those kept.
       let here = told x false said.0 said.1 in
       let later = those bs last xs (subst (λ g. ClosureRun call g xs bs last) here.1 said.2) in
       rw (← here.0) later
+
+-- a test that always answers true keeps all
+pub all_from_retains : {F X : Type 0} (call : F → X → Bool → F → Type 0)
+    → ((g : F) (x : X) (b : Bool) (next : F) → call g x b next → b ≡ true) → (f : F) (xs ys : List X)
+    → Retains call f xs ys → ys ≡ xs
+all_from_retains {F} {X} call told f xs ys kept = kept.3 ∙ those kept.0 f kept.1 xs kept.2 where
+  those : (bs : List Bool) (f last : F) (xs : List X) → ClosureRun call f xs bs last → items_where_true bs xs ≡ xs
+  those [] f last [] said = refl
+  those [] f last (x ∷ xs) said = absurd said
+  those (b ∷ bs) f last [] said = absurd said
+  those (true ∷ bs) f last (x ∷ xs) said = ap (λ l. x ∷ l) (those bs said.0 last xs said.2)
+  those (false ∷ bs) f last (x ∷ xs) said = let no = told f x false said.0 said.1 in cc
+
+-- a test that always answers false keeps none
+pub none_from_retains : {F X : Type 0} (call : F → X → Bool → F → Type 0)
+    → ((g : F) (x : X) (b : Bool) (next : F) → call g x b next → b ≡ false) → (f : F) (xs ys : List X)
+    → Retains call f xs ys → ys ≡ []
+none_from_retains {F} {X} call told f xs ys kept = kept.3 ∙ those kept.0 f kept.1 xs kept.2 where
+  those : (bs : List Bool) (f last : F) (xs : List X) → ClosureRun call f xs bs last → items_where_true bs xs ≡ []
+  those [] f last [] said = refl
+  those [] f last (x ∷ xs) said = absurd said
+  those (b ∷ bs) f last [] said = absurd said
+  those (true ∷ bs) f last (x ∷ xs) said = let no = told f x true said.0 said.1 in cc
+  those (false ∷ bs) f last (x ∷ xs) said = those bs said.0 last xs said.2
+
+-- a closure that writes each element by its value alone, keeps it, and stays as it is, leaves what `map` gives
+pub written_from_retains : {F X : Type 0} (call : F → X → Bool → F → X → Type 0) (write : X → X) (f : F)
+    → ((x : X) (b : Bool) (next : F) (y : X) → call f x b next y → (b ≡ true) × (next ≡ f) × (y ≡ write x)) → (xs ys : List X)
+    → RetainsMut call f xs ys → ys ≡ map write xs
+written_from_retains {F} {X} call write f told xs ys kept = kept.3 ∙ those kept.0 kept.1 xs kept.2 where
+  those : (calls : List (Bool × X)) (last : F) (xs : List X) → ClosureRun (answers_and_leaves call) f xs calls last
+      → left_where_true calls ≡ map write xs
+  those [] last [] said = refl
+  those [] last (x ∷ xs) said = absurd said
+  those (made ∷ calls) last [] said = absurd said
+  those ((true, y) ∷ calls) last (x ∷ xs) said =
+      let here = told x true said.0 y said.1 in
+      let later = those calls last xs (subst (λ g. ClosureRun (answers_and_leaves call) g xs calls last) here.1 said.2) in
+      rw (here.2, later)
+  those ((false, y) ∷ calls) last (x ∷ xs) said = let no = (told x false said.0 y said.1).0 in cc
+
+-- a closure that always answers one value, and stays as it is, fills up with that value
+pub filled_from_answers : {F X : Type 0} (call : F → X → F → Type 0) (value : X) (f : F)
+    → ((x : X) (next : F) → call f x next → (x ≡ value) × (next ≡ f)) → (count : ℕ) (old new : List X)
+    → AppendsAnswers call f count old new → new ≡ old ++ replicate count value
+filled_from_answers {F} {X} call value f told count old new said =
+    said.3 ∙ ap (λ l. old ++ l) (those count said.0 said.1 said.2) where
+  those : (count : ℕ) (answers : List X) (last : F)
+      → ClosureRun (λ f _ x next. call f x next) f (replicate count (tt {0})) answers last → answers ≡ replicate count value
+  those zero [] last said = refl
+  those zero (x ∷ answers) last said = absurd said
+  those (suc count) [] last said = absurd said
+  those (suc count) (x ∷ answers) last said =
+      let here = told x said.0 said.1 in
+      let later = those count answers last
+          (subst (λ g. ClosureRun (λ f _ x next. call f x next) g (replicate count (tt {0})) answers last) here.1 said.2) in
+      rw (here.0, later)

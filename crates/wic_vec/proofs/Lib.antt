@@ -1,5 +1,5 @@
+-- What the proofs of vectors and texts share.
 pub mod ClosureRuns
-pub mod Copies
-pub mod Digits
-pub mod DrainRuns
-pub mod Moved
+pub mod DigitFacts
+pub mod DigitTable
+pub mod ListFacts

@@ -1,7 +1,7 @@
 -- What a contract sees of a `TryString`.
 use Rattle.std.specs.Prelude.{ℕ, ◌+◌, ◌≤◌, List, length, Result, refl}
 use Rattle.std.specs.Coded.{Coded, code_by, coded×, coded_ℕ, coded_list}
-use Rattle.wic_vec.specs.Room.{MakesRoom}
+use Rattle.wic_vec.specs.Room.{MakesRoom, PutsAtEnd}
 
 -- the UTF-8 bytes of the text, and how many bytes fit with no request for memory
 pub record TryString : Type 0 where
@@ -21,3 +21,7 @@ HasRoomFor s more = length s.bytes + more ≤ s.capacity
 -- room is made for so many more bytes
 abbrev pub Reserves : {A E : Type 0} → TryString → TryString → ℕ → Result A E → Type 0
 Reserves old new more result = MakesRoom (λ s. length s.bytes) (λ s. s.capacity) old new more result
+
+-- these bytes are put at the end
+abbrev pub Appends : {A E : Type 0} → TryString → TryString → List ℕ → Result A E → Type 0
+Appends old new more result = PutsAtEnd (λ s. s.bytes) (λ s. s.capacity) old new more result

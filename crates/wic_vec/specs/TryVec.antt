@@ -2,7 +2,7 @@
 use Rattle.std.specs.Prelude.{ℕ, ◌+◌, ◌≤◌, List, length, slice_set, Result, refl}
 use Rattle.std.specs.List.{refill}
 use Rattle.std.specs.Coded.{Coded, code_by, coded×, coded_ℕ, coded_list}
-use Rattle.wic_vec.specs.Room.{MakesRoom}
+use Rattle.wic_vec.specs.Room.{MakesRoom, PutsAtEnd}
 
 -- the elements in order, and how many fit with no request for memory
 pub record TryVec (T : Type 0) : Type 0 where
@@ -23,6 +23,10 @@ module _ {T : Type 0} where
   -- room is made for so many more elements
   abbrev pub Reserves : {A E : Type 0} → TryVec T → TryVec T → ℕ → Result A E → Type 0
   Reserves old new more result = MakesRoom (λ v. length v.items) (λ v. v.capacity) old new more result
+
+  -- these elements are put at the end
+  abbrev pub Appends : {A E : Type 0} → TryVec T → TryVec T → List T → Result A E → Type 0
+  Appends old new more result = PutsAtEnd (λ v. v.items) (λ v. v.capacity) old new more result
 
   -- v with x at place i
   abbrev pub with_item : TryVec T → ℕ → T → TryVec T

@@ -46,12 +46,11 @@
 mod boxes;
 #[cfg(test)]
 mod callers;
-mod growth;
 mod string;
 mod try_clone;
 mod vec;
 
 pub use boxes::{TryNew, try_new};
-pub use string::TryString;
+pub use string::{LONGEST_WORD, TryString};
 pub use try_clone::TryClone;
 pub use vec::{Drain, TryVec};

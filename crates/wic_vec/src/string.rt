@@ -1,12 +1,13 @@
 //! A text whose growth can be refused.
-ghost use Rattle.std.specs.Prelude.{◌≡◌, ◌+◌, ◌<◌, ◌≤◌, ◌==◌, [], ◌++◌, length};
-ghost use Rattle.std.specs.Prelude.{encode_utf8, string_bytes, string_capacity, IsOk, IfOk, OnOk, OnErr};
-ghost use Rattle.wic_vec.specs.TryString.{HasRoomFor, Reserves};
+ghost use Rattle.std.specs.Prelude.{◌≡◌, ◌+◌, ◌≤◌, ◌↔◌, ◌==◌, [], length, max};
+ghost use Rattle.std.specs.Prelude.{encode_utf8, string_bytes, string_capacity, IsTrue, IsOk, IfOk, OnOk};
+ghost use Rattle.wic_vec.specs.TryString.{Appends, Reserves};
 
 mod compare;
 mod decimal;
+mod digits;
 
-use crate::growth::Growth;
+pub use decimal::LONGEST_WORD;
 use std::alloc::Global;
 use std::marker::Model;
 use wic_base::OutOfMemory;
@@ -75,13 +76,13 @@ impl TryString {
         Ok(text)
     }
 
-    /// The same text. It takes no memory.
-    ///
-    /// A port of `From<String>` for `TryString`.
+    /// The same text, in the memory of `s`: it keeps the room of the `String`.
     pub fn from_string(s: String) -> TryString
         ensures text { result.bytes ≡ string_bytes s }
+        ensures capacity { result.capacity ≡ string_capacity s }
+        ensures within { length result.bytes ≤ result.capacity }
     {
-        let capacity = s.len();
+        let capacity = s.capacity();
         TryString { inner: s, capacity }
     }
 
@@ -105,36 +106,40 @@ impl TryString {
         ensures same_text { self.new.bytes ≡ self.old.bytes }
         ensures reserves { Reserves self.old self.new additional result }
     {
-        self.make_room(additional, Growth::Amortized)
-    }
-
-    /// Makes room as `reserve` does, is refused where it is, and asks the allocator for no more than that.
-    ///
-    /// A port of `TryString::reserve_exact`.
-    pub fn reserve_exact(&mut self, additional: usize) -> Result<(), OutOfMemory>
-        ensures same_text { self.new.bytes ≡ self.old.bytes }
-        ensures reserves { Reserves self.old self.new additional result }
-    {
-        self.make_room(additional, Growth::Exact)
-    }
-
-    // Asks for memory only where there is no such room yet.
-    fn make_room(&mut self, additional: usize, growth: Growth) -> Result<(), OutOfMemory>
-        ensures same_text { self.new.bytes ≡ self.old.bytes }
-        ensures reserves { Reserves self.old self.new additional result }
-    {
-        if additional <= self.capacity - self.inner.len() {
+        if self.has_room_for(additional) {
             return Ok(());
         }
-        let grown = match growth {
-            Growth::Amortized => self.inner.reserve(additional),
-            Growth::Exact => self.inner.reserve_exact(additional),
-        };
-        if grown.is_err() {
+        if self.inner.reserve(additional).is_err() {
             return Err(OutOfMemory::new(self.inner.len().saturating_add(additional)));
         }
         self.capacity = self.inner.capacity();
         Ok(())
+    }
+
+    /// Makes room as `reserve` does, and no more than that: if the capacity was too small, it is then the length and
+    /// `additional`. It is refused when `reserve` is.
+    pub fn reserve_exact(&mut self, additional: usize) -> Result<(), OutOfMemory>
+        ensures same_text { self.new.bytes ≡ self.old.bytes }
+        ensures reserves { Reserves self.old self.new additional result }
+        ensures exact { OnOk result
+            (self.new.capacity ≡ max self.old.capacity (length self.old.bytes + additional)) }
+    {
+        if self.has_room_for(additional) {
+            return Ok(());
+        }
+        let len = self.inner.len();
+        if self.inner.reserve_exact(additional).is_err() {
+            return Err(OutOfMemory::new(len.saturating_add(additional)));
+        }
+        self.capacity = len + additional;
+        Ok(())
+    }
+
+    // Whether so many more bytes fit without an allocation.
+    fn has_room_for(&self, additional: usize) -> bool
+        ensures room { IsTrue result ↔ (length self.now.bytes + additional ≤ self.now.capacity) }
+    {
+        additional <= self.capacity - self.inner.len()
     }
 
     /// Gives back the memory that the text doesn't lie in, and lowers the capacity to the length. It is never refused:
@@ -156,12 +161,7 @@ impl TryString {
     ///
     /// A port of `TryString::push`.
     pub fn push(&mut self, c: char) -> Result<(), OutOfMemory>
-        ensures last { OnOk result (self.new.bytes ≡ self.old.bytes ++ encode_utf8 c) }
-        ensures never_refused_within { HasRoomFor self.old (length (encode_utf8 c)) → IsOk result }
-        ensures refused_only_beyond { OnErr result (self.old.capacity < length self.old.bytes + length (encode_utf8 c)) }
-        ensures capacity_kept_within { HasRoomFor self.old (length (encode_utf8 c)) → self.new.capacity ≡ self.old.capacity }
-        ensures capacity_never_falls { self.old.capacity ≤ self.new.capacity }
-        ensures refusal_leaves { OnErr result (self.new ≡ self.old) }
+        ensures { Appends self.old self.new (encode_utf8 c) result }
     {
         self.reserve(c.len_utf8())?;
         self.inner.push(c).unwrap();
@@ -173,12 +173,7 @@ impl TryString {
     ///
     /// A port of `TryString::push_str`.
     pub fn push_str(&mut self, s: &str) -> Result<(), OutOfMemory>
-        ensures last { OnOk result (self.new.bytes ≡ self.old.bytes ++ s.now) }
-        ensures never_refused_within { HasRoomFor self.old (length s.now) → IsOk result }
-        ensures refused_only_beyond { OnErr result (self.old.capacity < length self.old.bytes + length s.now) }
-        ensures capacity_kept_within { HasRoomFor self.old (length s.now) → self.new.capacity ≡ self.old.capacity }
-        ensures capacity_never_falls { self.old.capacity ≤ self.new.capacity }
-        ensures refusal_leaves { OnErr result (self.new ≡ self.old) }
+        ensures { Appends self.old self.new s.now result }
     {
         self.reserve(s.len())?;
         self.inner.push_str(s).unwrap();

@@ -1,10 +1,10 @@
 //! A vector whose growth can be refused.
-ghost use Rattle.std.specs.Prelude.{◌≡◌, ◌+◌, ◌<◌, ◌≤◌, ◌↔◌, ◌==◌, [], ◌∷◌, ◌++◌, length, take};
-ghost use Rattle.std.specs.Prelude.{slice_get, vec_capacity, Some, IsOk, IsSome, IfOk, IfSome, IfNone, OnOk, OnErr};
+ghost use Rattle.std.specs.Prelude.{◌≡◌, ◌+◌, ◌<◌, ◌≤◌, ◌↔◌, ◌==◌, [], ◌∷◌, ◌++◌, length, max, take};
+ghost use Rattle.std.specs.Prelude.{slice_get, vec_capacity, Some, IsTrue, IsOk, IsSome, IfOk, IfSome, IfNone, OnOk, OnErr};
 ghost use Rattle.std.specs.Option.{option_copied};
 ghost use Rattle.std.specs.Borrow.{sem};
 ghost use Rattle.std.specs.Mem.{FitsInMemory, type_size};
-ghost use Rattle.wic_vec.specs.TryVec.{HasRoomFor, Reserves};
+ghost use Rattle.wic_vec.specs.TryVec.{Appends, Reserves};
 
 mod compare;
 mod drain;
@@ -12,7 +12,6 @@ mod iter;
 mod resize;
 mod retain;
 
-use crate::growth::Growth;
 pub use drain::Drain;
 use std::alloc::Global;
 use std::marker::Model;
@@ -80,6 +79,7 @@ impl<T> TryVec<T> {
     pub fn from_vec(v: Vec<T>) -> TryVec<T>
         ensures items { result.items ≡ v.items }
         ensures capacity { result.capacity ≡ vec_capacity v }
+        ensures within { length result.items ≤ result.capacity }
     {
         let capacity = v.capacity();
         TryVec { inner: v, capacity }
@@ -105,36 +105,40 @@ impl<T> TryVec<T> {
         ensures same_items { self.new.items ≡ self.old.items }
         ensures reserves { Reserves self.old self.new additional result }
     {
-        self.make_room(additional, Growth::Amortized)
-    }
-
-    /// Makes room as `reserve` does, is refused where it is, and asks the allocator for no more than that.
-    ///
-    /// A port of `TryVec::reserve_exact`.
-    pub fn reserve_exact(&mut self, additional: usize) -> Result<(), OutOfMemory>
-        ensures same_items { self.new.items ≡ self.old.items }
-        ensures reserves { Reserves self.old self.new additional result }
-    {
-        self.make_room(additional, Growth::Exact)
-    }
-
-    // Asks for memory only where there is no such room yet.
-    fn make_room(&mut self, additional: usize, growth: Growth) -> Result<(), OutOfMemory>
-        ensures same_items { self.new.items ≡ self.old.items }
-        ensures reserves { Reserves self.old self.new additional result }
-    {
-        if additional <= self.capacity - self.inner.len() {
+        if self.has_room_for(additional) {
             return Ok(());
         }
-        let grown = match growth {
-            Growth::Amortized => self.inner.reserve(additional),
-            Growth::Exact => self.inner.reserve_exact(additional),
-        };
-        if grown.is_err() {
+        if self.inner.reserve(additional).is_err() {
             return Err(wanting::<T>(self.inner.len(), additional));
         }
         self.capacity = self.inner.capacity();
         Ok(())
+    }
+
+    /// Makes room as `reserve` does, and no more than that: if the capacity was too small, it is then the length and
+    /// `additional`. It is refused when `reserve` is.
+    pub fn reserve_exact(&mut self, additional: usize) -> Result<(), OutOfMemory>
+        ensures same_items { self.new.items ≡ self.old.items }
+        ensures reserves { Reserves self.old self.new additional result }
+        ensures exact { OnOk result
+            (self.new.capacity ≡ max self.old.capacity (length self.old.items + additional)) }
+    {
+        if self.has_room_for(additional) {
+            return Ok(());
+        }
+        let len = self.inner.len();
+        if self.inner.reserve_exact(additional).is_err() {
+            return Err(wanting::<T>(len, additional));
+        }
+        self.capacity = len + additional;
+        Ok(())
+    }
+
+    // Whether so many more elements fit without an allocation.
+    fn has_room_for(&self, additional: usize) -> bool
+        ensures room { IsTrue result ↔ (length self.now.items + additional ≤ self.now.capacity) }
+    {
+        additional <= self.capacity - self.inner.len()
     }
 
     /// Gives back the memory that no element lies in, and lowers the capacity to the length. It is never refused: where
@@ -161,9 +165,11 @@ impl<T> TryVec<T> {
         ensures last { OnOk result (self.new.items ≡ self.old.items ++ value ∷ []) }
         ensures never_refused_below { length self.old.items < self.old.capacity → IsOk result }
         ensures refused_only_full { OnErr result (length self.old.items ≡ self.old.capacity) }
-        ensures capacity_kept_below { length self.old.items < self.old.capacity → self.new.capacity ≡ self.old.capacity }
+        ensures capacity_kept_below { length self.old.items < self.old.capacity
+            → self.new.capacity ≡ self.old.capacity }
         ensures capacity_never_falls { self.old.capacity ≤ self.new.capacity }
         ensures refusal_leaves { OnErr result (self.new ≡ self.old) }
+        ensures within { length self.new.items ≤ self.new.capacity }
     {
         if self.inner.len() == self.capacity {
             self.reserve(1)?;
@@ -180,6 +186,7 @@ impl<T> TryVec<T> {
         requires { length self.old.items < self.old.capacity }
         ensures last { self.new.items ≡ self.old.items ++ value ∷ [] }
         ensures capacity_stays { self.new.capacity ≡ self.old.capacity }
+        ensures within { length self.new.items ≤ self.new.capacity }
     {
         self.inner.push_reserved(value);
     }
@@ -192,6 +199,7 @@ impl<T> TryVec<T> {
         ensures last { IfSome result (λ value. self.old.items ≡ self.new.items ++ value ∷ []) }
         ensures none_leaves { IfNone result (self.new ≡ self.old) }
         ensures capacity_stays { self.new.capacity ≡ self.old.capacity }
+        ensures within { length self.new.items ≤ self.new.capacity }
     {
         self.inner.pop()
     }
@@ -270,6 +278,7 @@ impl<T: Drop> TryVec<T> {
     pub fn truncate(&mut self, len: usize)
         ensures front { self.new.items ≡ take len self.old.items }
         ensures capacity_stays { self.new.capacity ≡ self.old.capacity }
+        ensures within { length self.new.items ≤ self.new.capacity }
     {
         self.inner.truncate(len);
     }
@@ -291,12 +300,7 @@ impl<T: Copy> TryVec<T> {
     ///
     /// This project's own, after `Vec::extend_from_slice`.
     pub fn extend_from_slice(&mut self, other: &[T]) -> Result<(), OutOfMemory>
-        ensures last { OnOk result (self.new.items ≡ self.old.items ++ other.now) }
-        ensures never_refused_within { HasRoomFor self.old (length other.now) → IsOk result }
-        ensures refused_only_beyond { OnErr result (self.old.capacity < length self.old.items + length other.now) }
-        ensures capacity_kept_within { HasRoomFor self.old (length other.now) → self.new.capacity ≡ self.old.capacity }
-        ensures capacity_never_falls { self.old.capacity ≤ self.new.capacity }
-        ensures refusal_leaves { OnErr result (self.new ≡ self.old) }
+        ensures { Appends self.old self.new other.now result }
     {
         self.reserve(other.len())?;
         self.inner.extend_from_slice(other).unwrap();

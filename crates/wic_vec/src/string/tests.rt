@@ -1,5 +1,6 @@
 use super::*;
 use crate::TryClone;
+use crate::callers::{end_line, tell_count};
 use std::cmp::Ordering;
 use std::hash::{DefaultHasher, Hash, Hasher};
 use std::test::Fail;
@@ -29,14 +30,66 @@ fn texts_have_the_room_that_was_asked_for(rt: HostRuntime) -> Result<(), Fail> {
     Ok(())
 }
 
+// How often the capacity changes while a thousand letters are pushed, each after room for one was made or not.
+fn growths(alloc: Global, reserves: bool) -> Result<u32, OutOfMemory> {
+    let mut text = TryString::new(alloc);
+    let mut changes = 0u32;
+    for _ in 0..1000 {
+        let before = text.capacity();
+        if reserves {
+            text.reserve(1)?;
+        }
+        text.push_str("x")?;
+        if text.capacity() != before {
+            changes = changes.saturating_add(1);
+        }
+    }
+    Ok(changes)
+}
+
+#[test]
+fn a_thousand_pushes_grow_a_text_few_times(rt: HostRuntime) -> Result<(), Fail> {
+    assert!(rt; growths(rt.alloc(), false)? <= 12);
+    assert!(rt; growths(rt.alloc(), true)? <= 12);
+    Ok(())
+}
+
+#[test]
+fn the_block_of_a_text_is_as_large_as_was_asked_for(rt: HostRuntime) -> Result<(), Fail> {
+    let alloc = rt.alloc();
+    let mut text = TryString::with_capacity(alloc, 16)?;
+    text.push_str("sixteen letters!")?;
+    text.reserve_exact(1)?;
+    assert_eq!(rt; text.capacity(), 17);
+    let kept = text.into_string();
+    assert_eq!(rt; kept.capacity(), 17);
+    let mut text = TryString::from_string(kept);
+    assert_eq!(rt; text.capacity(), 17);
+    text.shrink_to_fit()?;
+    assert_eq!(rt; text.into_string().capacity(), 16);
+    Ok(())
+}
+
+#[test]
+fn lines_of_numbers_are_pushed_whole(rt: HostRuntime) -> Result<(), Fail> {
+    let mut text = end_line(format!(in rt.alloc(); "head")?)?;
+    text.push_decimal_line(0)?;
+    text.push_decimal_line(105)?;
+    text.push_number("", u64::MAX)?;
+    text.push_number("é é ", 42)?;
+    tell_count(&mut text, 7)?;
+    assert_eq!(rt; text.as_str(), "head\n0\n105\n18446744073709551615\né é 42\ncount 7\n");
+    Ok(())
+}
+
 #[test]
 fn numbers_are_written_in_decimal(rt: HostRuntime) -> Result<(), Fail> {
     let mut text = TryString::new(rt.alloc());
-    for number in [0, 7, 10, 4096, u64::MAX] {
+    for number in [0, 7, 10, 99, 100, 4096, 12345, u64::MAX] {
         text.push_decimal(number)?;
         text.push(' ')?;
     }
-    assert_eq!(rt; text.as_str(), "0 7 10 4096 18446744073709551615 ");
+    assert_eq!(rt; text.as_str(), "0 7 10 99 100 4096 12345 18446744073709551615 ");
     Ok(())
 }
 

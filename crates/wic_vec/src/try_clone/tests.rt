@@ -27,8 +27,8 @@ fn copies_are_the_same(rt: HostRuntime) -> Result<(), Fail> {
     assert_eq!(rt; copy_of(alloc, &Ok::<u8, u32>(3))?, Ok(3));
     assert_eq!(rt; copy_of(alloc, &Err::<u8, u32>(5))?, Err(5));
     assert_eq!(rt; copy_of_pair(alloc, &(7, false))?, (7, false));
-    let boxed = try_new::<Box<u32>>(alloc, 36)?;
-    assert_eq!(rt; *copy_of(alloc, &boxed)?, 36);
+    let boxed = try_new::<Box<u32>>(alloc, 4)?;
+    assert_eq!(rt; *copy_of(alloc, &boxed)?, 4);
     let seven = 7;
     let (a, b, c, d, e, f) = copy_of(alloc, &(1u16, 2u64, -3i8, 'x', &seven, (4usize,)))?;
     assert_eq!(rt; (a, b, c, d, *e, f.0), (1, 2, -3, 'x', 7, 4));

@@ -43,13 +43,15 @@ impl<T: TryClone> TryVec<T> {
     /// A port of `TryVec::resize`.
     pub fn resize(&mut self, new_len: usize, value: T) -> Result<(), OutOfMemory>
         ensures shorter { new_len ≤ length self.old.items → self.new.items ≡ take new_len self.old.items }
-        ensures longer { length self.old.items < new_len → OnOk result (FillsUp T.same value new_len self.old.items self.new.items) }
+        ensures longer { length self.old.items < new_len
+            → OnOk result (FillsUp T.same value new_len self.old.items self.new.items) }
         ensures refused_only_longer { OnErr result (length self.old.items < new_len) }
         ensures never_refused_within { new_len ≤ self.old.capacity → T.never_refused value → IsOk result }
         ensures refusal_leaves { OnErr result (AppendsCopies T.same value self.old.items self.new.items) }
         ensures refusal_stays_shorter { OnErr result (length self.new.items < new_len) }
         ensures capacity_kept_within { new_len ≤ self.old.capacity → self.new.capacity ≡ self.old.capacity }
         ensures capacity_never_falls { self.old.capacity ≤ self.new.capacity }
+        ensures within { length self.new.items ≤ self.new.capacity }
     {
         let len = self.len();
         if new_len <= len {
@@ -83,14 +85,16 @@ impl<T: TryClone> TryVec<T> {
 
 impl<T: Drop> TryVec<T> {
     /// Sets the length. A shorter vector keeps its first elements, and `f` isn't called. A longer one gets what `f`
-    /// answers, called once for each new element, in order. It is refused only where the capacity is below the new
+    /// returns, called once for each new element, in order. It is refused only if the capacity is below the new
     /// length, before the first call: then the vector is as before.
     ///
-    /// A port of `TryVec::resize_with`.
+    /// `filled_from_answers` of `proofs/ClosureRuns` is for a caller whose `f` always returns one value.
     pub fn resize_with<F: FnMut() -> T>(&mut self, new_len: usize, f: F) -> Result<(), OutOfMemory>
         requires { F.IsAlwaysCallable f }
         ensures items { OnOk result (AppendsAnswers F.step f (new_len - length self.old.items)
             (take new_len self.old.items) self.new.items) }
+        ensures length { OnOk result (length self.new.items ≡ new_len) }
+        ensures within { length self.new.items ≤ self.new.capacity }
         ensures never_refused_within { new_len ≤ self.old.capacity → IsOk result }
         ensures refused_only_beyond { OnErr result (self.old.capacity < new_len) }
         ensures capacity_kept_within { new_len ≤ self.old.capacity → self.new.capacity ≡ self.old.capacity }

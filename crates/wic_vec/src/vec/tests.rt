@@ -2,7 +2,7 @@ ghost use Rattle.std.specs.Prelude.{◌≡◌, ◌<◌, ◌≤◌, length, rever
 ghost use Rattle.std.specs.List.{All, remove_range};
 
 use super::*;
-use crate::callers::write_everywhere;
+use crate::callers::{counted, fill_up, keep_all, keep_fewer, keep_none, overwrite, push_two, write_everywhere};
 use std::alloc::AllocError;
 use std::cmp::Ordering;
 use std::hash::{DefaultHasher, Hash, Hasher};
@@ -191,12 +191,63 @@ fn walks_in_order(rt: HostRuntime) -> Result<(), Fail> {
     Ok(())
 }
 
+// The room of the block after so many numbers were put in and room for so many more was asked for, exactly.
+fn exact_block(alloc: Global, len: u32, more: usize) -> Result<usize, OutOfMemory> {
+    let mut v = TryVec::with_capacity(alloc, len as usize)?;
+    for number in 0..len {
+        v.push(number)?;
+    }
+    v.reserve_exact(more)?;
+    Ok(v.into_vec().capacity())
+}
+
 #[test]
-fn exact_room_is_found(rt: HostRuntime) -> Result<(), Fail> {
-    let mut v = of(rt.alloc(), &[1])?;
-    v.reserve_exact(9)?;
-    assert_eq!(rt; v.capacity(), 10);
-    assert_eq!(rt; v.as_slice(), [1].as_slice());
+fn exact_room_is_no_more_than_was_asked_for(rt: HostRuntime) -> Result<(), Fail> {
+    for (len, more, room) in [(1, 9, 10), (16, 1, 17), (100, 3, 103), (4, 0, 4)] {
+        assert_eq!(rt; exact_block(rt.alloc(), len, more)?, room, "{len} and {more}");
+    }
+    Ok(())
+}
+
+// The room of the block after a shrink, with so many numbers in it and room for 100.
+fn shrunk_block(alloc: Global, len: u32) -> Result<usize, OutOfMemory> {
+    let mut v = TryVec::with_capacity(alloc, 100)?;
+    for number in 0..len {
+        v.push(number)?;
+    }
+    v.shrink_to_fit()?;
+    Ok(v.into_vec().capacity())
+}
+
+#[test]
+fn a_shrink_gives_back_all_room_but_that_of_the_elements(rt: HostRuntime) -> Result<(), Fail> {
+    for len in [0, 1, 3, 64] {
+        assert_eq!(rt; shrunk_block(rt.alloc(), len)?, len as usize);
+    }
+    Ok(())
+}
+
+// How often the capacity changes while a thousand numbers are pushed, each after room for one was made or not.
+fn growths(alloc: Global, reserves: bool) -> Result<u32, OutOfMemory> {
+    let mut v = TryVec::new(alloc);
+    let mut changes = 0u32;
+    for number in 0..1000u32 {
+        let before = v.capacity();
+        if reserves {
+            v.reserve(1)?;
+        }
+        v.push(number)?;
+        if v.capacity() != before {
+            changes = changes.saturating_add(1);
+        }
+    }
+    Ok(changes)
+}
+
+#[test]
+fn a_thousand_pushes_grow_few_times(rt: HostRuntime) -> Result<(), Fail> {
+    assert!(rt; growths(rt.alloc(), false)? <= 12);
+    assert!(rt; growths(rt.alloc(), true)? <= 12);
     Ok(())
 }
 
@@ -275,6 +326,22 @@ fn closures_tell_what_stays(rt: HostRuntime) -> Result<(), Fail> {
     });
     assert_eq!(rt; v.as_slice(), [5, 7].as_slice());
     assert_eq!(rt; calls, 4);
+    Ok(())
+}
+
+#[test]
+fn callers_of_closures_have_what_they_prove(rt: HostRuntime) -> Result<(), Fail> {
+    let mut v = of(rt.alloc(), &[1, 2, 3])?;
+    keep_all(&mut v);
+    keep_fewer(&mut v, 2);
+    push_two(&mut v, 5, 6)?;
+    assert_eq!(rt; v.as_slice(), [1, 2, 5, 6].as_slice());
+    overwrite(&mut v, 9);
+    fill_up(&mut v, 6, 4)?;
+    assert_eq!(rt; v.as_slice(), [9, 9, 9, 9, 4, 4].as_slice());
+    keep_none(&mut v);
+    counted(&mut v, 2)?;
+    assert_eq!(rt; v.as_slice(), [7, 7].as_slice());
     Ok(())
 }
 

@@ -1,7 +1,7 @@
 use Rattle.std.proofs.Common.{◌≡◌, ◌<◌, length, inl, inr, true, false, refl, sym, ap, subst, ◌∙◌}
 use Rattle.std.specs.FinSet.{contains, insert, remove}
 use Rattle.std.proofs.lemmas.Bool.{not-false, not-true}
-use Rattle.wic_bitset.proofs.SetFacts.{there_after_insert}
+use Rattle.wic_base.proofs.SetFacts.{there_after_insert}
 use Rattle.std.specs.Prelude.{slice_index}
 use Rattle.entity_set.proofs.FollowFacts.{following-step, following-ends, kept_after_insert, to_do, fewer-known, fewer-new}
 use Rattle.entity_set.proofs.KeysFacts.{below-insert, below-remove}

@@ -1,5 +1,5 @@
 use Rattle.std.proofs.Common.{length}
-use Rattle.wic_bitset.specs.Compound.{AllBelow}
+use Rattle.wic_base.specs.Sets.{AllBelow}
 use Rattle.std.specs.Prelude.{slice_index}
 use Rattle.entity_set.proofs.FollowFacts.{IsFollowing, to_do}
 use Rattle.entity_set.proofs.callers.follow.Given as goal

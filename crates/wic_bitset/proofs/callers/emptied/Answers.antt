@@ -5,7 +5,7 @@ use Rattle.std.specs.FinSet.{contains-empty, empty, insert, len, remove}
 use Rattle.wic_bitset.specs.Growth.{count_after}
 use Rattle.wic_bitset.specs.Summary.{filled_words}
 use Rattle.wic_bitset.proofs.ByWordFacts.{len-filled_words-empty}
-use Rattle.wic_scalar.proofs.SetFacts.{remove-insert}
+use Rattle.wic_base.proofs.SetFacts.{remove-insert}
 use Rattle.wic_bitset.proofs.callers.emptied.Goals as goal
 
 pub returns : goal.returns

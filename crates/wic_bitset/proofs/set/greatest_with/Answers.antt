@@ -1,7 +1,7 @@
 use Rattle.std.proofs.Common.{sym, subst}
 use Rattle.std.specs.FinSet.{insert}
 use Rattle.wic_bitset.specs.Greatest.{IsMax}
-use Rattle.wic_scalar.specs.Extremes.{IsGreatest}
+use Rattle.wic_base.specs.Sets.{IsGreatest}
 use Rattle.wic_bitset.proofs.GreatestFacts.{greatest-insert, greatest-insert_first}
 use Rattle.wic_bitset.proofs.set.greatest_with.Goals as goal
 

@@ -1,7 +1,7 @@
 use Rattle.std.specs.FinMap.{contains_key}
 use Rattle.std.proofs.Common.{◌≢◌, true≢false, sym, ap, ◌∙◌}
 use Rattle.wic_slab.specs.Order.{next_id}
-use Rattle.wic_slab.proofs.LiveLemmas.{get-insert_other}
+use Rattle.wic_base.proofs.MapFacts.{get-insert_other}
 use Rattle.wic_slab.proofs.callers.hold_both.Goals as goal
 
 -- the second id was vacant while the first was live, so what is held under the first stays

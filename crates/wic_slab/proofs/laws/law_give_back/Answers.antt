@@ -1,7 +1,7 @@
 use Rattle.std.proofs.Common.{ap, ◌∙◌}
 use Rattle.std.specs.FinMap.{insert, remove}
-use Rattle.wic_slab.proofs.LiveLemmas.{insert-remove}
-use Rattle.wic_slab.proofs.OrderLemmas.{next_id-give_back, take_next-give_back}
+use Rattle.wic_base.proofs.MapFacts.{insert-remove}
+use Rattle.wic_slab.proofs.OrderFacts.{next_id-give_back, take_next-give_back}
 use Rattle.wic_slab.proofs.laws.law_give_back.Goals as goal
 
 pub returns : goal.returns

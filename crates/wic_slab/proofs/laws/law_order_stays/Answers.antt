@@ -1,5 +1,5 @@
-use Rattle.wic_slab.proofs.OrderLemmas.{IsOrder-take_next, IsOrder-give_back, BelongsTo-take_next, BelongsTo-give_back, live_below}
-use Rattle.wic_slab.proofs.OrderLemmas.{live_not_vacant}
+use Rattle.wic_slab.proofs.OrderFacts.{IsOrder-take_next, IsOrder-give_back, BelongsTo-take_next, BelongsTo-give_back, live_below}
+use Rattle.wic_slab.proofs.OrderFacts.{live_not_vacant}
 use Rattle.wic_slab.proofs.laws.law_order_stays.Goals as goal
 
 pub returns : goal.returns

@@ -1,7 +1,7 @@
 use Rattle.std.specs.FinMap.{get}
 use Rattle.wic_slab.specs.Order.{next_id}
-use Rattle.wic_slab.proofs.LiveLemmas.{remove-insert, none_from_not_some}
-use Rattle.wic_slab.proofs.OrderLemmas.{next_id_not_live, give_back-take_next}
+use Rattle.wic_base.proofs.MapFacts.{remove-insert, none_from_not_some}
+use Rattle.wic_slab.proofs.OrderFacts.{next_id_not_live, give_back-take_next}
 use Rattle.wic_slab.proofs.laws.law_take_back.Goals as goal
 
 pub returns : goal.returns

@@ -1,6 +1,6 @@
 use Rattle.std.proofs.Common.{sym, subst, true≢false}
 use Rattle.std.specs.Prelude.{IsOk}
-use Rattle.wic_bitset.specs.Compound.{AllBelow}
+use Rattle.wic_base.specs.Sets.{AllBelow}
 use Rattle.batch_core.specs.Command.{effect_of}
 use Rattle.batch_core.specs.declared.command.Command.TheVariants.{Insert}
 use Rattle.batch_core.proofs.store.Store.perform.Goals as goal

@@ -1,6 +1,6 @@
-use Rattle.std.proofs.Common.{◌≡◌, None, sym, ap, subst, ◌∙◌}
+use Rattle.std.proofs.Common.{rules, ◌≡◌, None, sym, ap, subst, ◌∙◌}
 use Rattle.batch_core.specs.Batch.{first_bad}
-use Rattle.batch_core.proofs.RunFacts.{fits_kept}
+use Rattle.batch_core.proofs.RunFacts.{fits_kept, refused_kept}
 use Rattle.batch_core.proofs.workspace.Workspace.apply.Goals as goal
 
 pub returns-in-Err-run-clause-never_oom_within : goal.returns-in-Err-run-clause-never_oom_within
@@ -17,3 +17,13 @@ returns-in-Err-run-clause-never_refused_within g c fits none =
     c.in-Err-run.ensures.never_refused_within
     (fits_kept (ap (λ w. w.room) begun ∙ c.begin_records.ensures.room) contents fits)
     (subst (λ k. first_bad k c.args.batch.commands.items ≡ None) (sym contents) none)
+
+pub returns-in-Err-run-clause-applied : goal.returns-in-Err-run-clause-applied
+returns-in-Err-run-clause-applied g c =
+    let begun = c.get_mut.ensures.held ∙ c.new-guard.ensures.holds ∙ c.replace-held.ensures.value in
+    let refused = c.in-Err-run.ensures.refused c.args.batch.end in (
+      search rules,
+      search rules,
+      refused_kept _ _ _ _ c.args.batch.commands.items c.args.batch.end c.in-Err-run.refusal.cause c.in-Err-run.refusal.at
+          (ap (λ w. w.room) begun ∙ c.begin_records.ensures.room) (ap (λ w. w.contents) begun ∙ c.begin_records.ensures.contents) refused,
+    )

@@ -1,26 +1,27 @@
 use Rattle.std.proofs.Common.{◌+◌, ◌∷◌, ◌++◌, [], refl, sym, ap, ◌∙◌, arith, append_assoc, length, length-append}
 use Rattle.std.specs.Vec.Iter.{into_iter_items}
+use Rattle.batch_core.specs.declared.command.End.TheVariants.{Commit}
 use Rattle.batch_core.proofs.RunFacts.{along_step, along_refused, never_refused, never_refused_at_all}
 use Rattle.batch_core.proofs.workspace.Workspace.run.Goals as goal
 
 pub returns-in-Err-clause-refused : goal.returns-in-Err-clause-refused
-returns-in-Err-clause-refused g c =
+returns-in-Err-clause-refused g c ending =
     let l = c.loop-command in
     let all = c.args.commands.items in
     let split = sym l.invariant.split ∙ ap (λ r. l.yielded ++ r) c.in-Some.ensures.steps.0 in
-    along_refused (length all) c.args.self.now l.self l.yielded c.in-Some.command (into_iter_items c.next.new.self) all c.args.ending
+    along_refused (length all) c.args.self.now l.self l.yielded c.in-Some.command (into_iter_items c.next.new.self) all ending
     (l.at + 1) c.in-Err.cause l.invariant.along split refl
     (omega (arith, l.invariant.count)) c.mark.ensures.ready c.mark.ensures.within c.in-Err.ensures.cause
 
 pub returns-in-Err-clause-never_oom_within : goal.returns-in-Err-clause-never_oom_within
 returns-in-Err-clause-never_oom_within g c fits =
-    never_refused c.args.self.now.room c.args.self.now.contents c.args.commands.items c.args.ending c.in-Err.cause (c.loop-command.at + 1)
-    (returns-in-Err-clause-refused g c) fits
+    never_refused c.args.self.now.room c.args.self.now.contents c.args.commands.items Commit c.in-Err.cause (c.loop-command.at + 1)
+    (returns-in-Err-clause-refused g c Commit) fits
 
 pub returns-in-Err-clause-never_refused_within : goal.returns-in-Err-clause-never_refused_within
 returns-in-Err-clause-never_refused_within g c fits none =
-    absurd (never_refused_at_all c.args.self.now.room c.args.self.now.contents c.args.commands.items c.args.ending c.in-Err.cause
-    (c.loop-command.at + 1) (returns-in-Err-clause-refused g c) fits none)
+    absurd (never_refused_at_all c.args.self.now.room c.args.self.now.contents c.args.commands.items Commit c.in-Err.cause
+    (c.loop-command.at + 1) (returns-in-Err-clause-refused g c Commit) fits none)
 
 pub loop-command-preserved : goal.loop-command-preserved
 loop-command-preserved g c =

@@ -1,5 +1,5 @@
 use Rattle.std.proofs.Common.{subst, sym}
-use Rattle.wic_bitset.specs.Compound.{AllBelow}
+use Rattle.wic_base.specs.Sets.{AllBelow}
 use Rattle.entity_set.proofs.KeysFacts.{below-insert, either_way}
 use Rattle.entity_set.proofs.set.EntitySet.insert.Goals as goal
 

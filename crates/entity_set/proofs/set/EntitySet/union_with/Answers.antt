@@ -1,5 +1,6 @@
 use Rattle.std.proofs.Common.{◌*◌, ap, sym, subst, ◌∙◌}
-use Rattle.wic_bitset.specs.Compound.{AllBelow, capacity_of}
+use Rattle.wic_base.specs.Sets.{AllBelow}
+use Rattle.wic_bitset.specs.Compound.{capacity_of}
 use Rattle.entity_set.proofs.KeysFacts.{below-union, either_way}
 use Rattle.entity_set.proofs.set.EntitySet.union_with.Goals as goal
 

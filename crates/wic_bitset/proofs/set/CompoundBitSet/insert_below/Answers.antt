@@ -1,7 +1,7 @@
 use Rattle.std.proofs.Common.{◌/◌, ◌<◌, ◌*◌, ap, sym, subst, ◌∙◌}
 use Rattle.std.specs.FinSet.{insert}
 use Rattle.std.proofs.lemmas.Nat.{div_below}
-use Rattle.wic_scalar.specs.Extremes.{IsGreatest}
+use Rattle.wic_base.specs.Sets.{IsGreatest}
 use Rattle.wic_bitset.proofs.SummaryFacts.{Summarizes-insert}
 use Rattle.wic_bitset.proofs.set.CompoundBitSet.insert_below.Goals as goal
 

@@ -1,5 +1,6 @@
-use Rattle.std.proofs.Common.{◌<◌, ◌≤◌, length, sym, ap, ◌∙◌, subst, arith}
+use Rattle.std.proofs.Common.{◌*◌, ◌<◌, ◌≤◌, length, sym, ap, ◌∙◌, subst, arith}
 use Rattle.std.specs.Prelude.{All}
+use Rattle.std.proofs.Math.Nat.{div-lt_iff_lt-mul}
 use Rattle.std.specs.Ordering.{nat_cmp}
 use Rattle.std.specs.List.{flat_map}
 use Rattle.std.specs.List.Sorted.{IsStrictlyIncreasing}
@@ -7,7 +8,7 @@ use Rattle.std.specs.FinSet.{from_list}
 use Rattle.wic_bitset.specs.Rising.{rising, word_members}
 use Rattle.wic_bitset.specs.Summary.{filled_words}
 use Rattle.wic_bitset.proofs.ByWordFacts.{by_words}
-use Rattle.wic_bitset.proofs.RisingFacts.{from_list-rising, length-rising-le, IsStrictlyIncreasing-rising}
+use Rattle.wic_bitset.proofs.RisingFacts.{All-rising, from_list-rising, length-rising-le, IsStrictlyIncreasing-rising}
 use Rattle.wic_bitset.proofs.SummaryFacts.{All-filled}
 use Rattle.wic_bitset.proofs.set.CompoundBitSet.iter.Goals as goal
 
@@ -39,3 +40,17 @@ returns-clause-few g c =
     subst (λ list. length list ≤ 4294967296) (sym (returns-clause-members g c))
     (subst (λ v. length (rising v.members) ≤ 4294967296) c.self.view_is
     (length-rising-le c.self.inside.words.members 4294967296 (λ i has. let h = c.self.invariant.0.numbers i has in omega arith)))
+
+pub returns-clause-below : goal.returns-clause-below
+returns-clause-below g c =
+    let w = g.T.ScalarBitSetStorage.width in
+    subst (All (λ i. i < c.args.self.now.words * w)) (sym (returns-clause-members g c))
+    (subst (λ v. All (λ i. i < v.words * w) (rising v.members)) c.self.view_is
+    (All-rising (λ i. i < c.self.inside.words.count * w) c.self.inside.words.members
+    (λ i has. (div-lt_iff_lt-mul g.T.ScalarBitSetStorage.width_within.positive).0 (c.self.invariant.0.ends i has))))
+
+pub returns-clause-numbers : goal.returns-clause-numbers
+returns-clause-numbers g c =
+    subst (All (λ i. i ≤ 4294967295)) (sym (returns-clause-members g c))
+    (subst (λ v. All (λ i. i ≤ 4294967295) (rising v.members)) c.self.view_is
+    (All-rising (λ i. i ≤ 4294967295) c.self.inside.words.members c.self.invariant.0.numbers))

@@ -3,7 +3,7 @@ use Rattle.std.specs.FinSet.{contains}
 use Rattle.wic_bitset.specs.Greatest.{IsMax}
 use Rattle.wic_bitset.specs.Growth.{count_after}
 use Rattle.wic_bitset.proofs.CombinationFacts.{greatest_is_one, in_use_within, in_use_none, union_is}
-use Rattle.wic_scalar.proofs.SetFacts.{none_in_empty}
+use Rattle.wic_base.proofs.SetFacts.{none_in_empty}
 use Rattle.wic_bitset.proofs.set.CompoundBitSet.union_with.Goals as goal
 use Rattle.wic_bitset.proofs.set.CompoundBitSet.union_with.Goals.{in-Some+in_ok-make_room_for, in_default}
 

@@ -2,7 +2,7 @@ use Rattle.std.proofs.Common.{◌≡◌, ◌/◌, ◌%◌, sym, ap, subst, ◌�
 use Rattle.std.specs.FinSet.{contains, remove}
 use Rattle.wic_scalar.specs.Scalar.{set_of}
 use Rattle.wic_bitset.specs.Words.{set_of_words}
-use Rattle.wic_scalar.proofs.SetFacts.{remove_absent}
+use Rattle.wic_base.proofs.SetFacts.{remove_absent}
 use Rattle.wic_bitset.proofs.WordFacts.{in_word, in_no_word, take_from_word, none_past}
 use Rattle.wic_bitset.proofs.store.Store.remove.Goals as goal
 

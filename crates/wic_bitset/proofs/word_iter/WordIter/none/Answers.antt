@@ -1,5 +1,5 @@
 use Rattle.std.proofs.Common.{◌+◌, map, ap, ◌∙◌}
-use Rattle.wic_scalar.proofs.MemberLemmas.{no_members_of_empty}
+use Rattle.wic_scalar.proofs.MemberFacts.{no_members_of_empty}
 use Rattle.wic_bitset.proofs.word_iter.WordIter.none.Goals as goal
 
 pub returns : goal.returns

@@ -1,4 +1,4 @@
-use Rattle.wic_scalar.proofs.SetLemmas.{contains_from_test}
+use Rattle.wic_scalar.proofs.CallFacts.{contains_from_test}
 use Rattle.wic_scalar.proofs.set.ScalarBitSet.contains.Goals as goal
 
 pub returns : goal.returns

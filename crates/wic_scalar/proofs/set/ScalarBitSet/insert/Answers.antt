@@ -1,6 +1,6 @@
 use Rattle.std.proofs.Common.{ap, sym, not, ◌∙◌}
-use Rattle.wic_scalar.proofs.SetFacts.{insert_present}
-use Rattle.wic_scalar.proofs.SetLemmas.{len-inserted, insert_from_or}
+use Rattle.wic_base.proofs.SetFacts.{insert_present}
+use Rattle.wic_scalar.proofs.CallFacts.{len-inserted, insert_from_or}
 use Rattle.wic_scalar.proofs.set.ScalarBitSet.insert.Goals as goal
 
 pub returns-then-contains-clause-set : goal.returns-then-contains-clause-set

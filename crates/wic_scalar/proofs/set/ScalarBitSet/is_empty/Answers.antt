@@ -1,4 +1,4 @@
-use Rattle.wic_scalar.proofs.SetLemmas.{is_empty_from_test}
+use Rattle.wic_scalar.proofs.CallFacts.{is_empty_from_test}
 use Rattle.wic_scalar.proofs.set.ScalarBitSet.is_empty.Goals as goal
 
 pub returns : goal.returns

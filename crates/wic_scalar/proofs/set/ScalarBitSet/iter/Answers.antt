@@ -1,5 +1,5 @@
 use Rattle.std.proofs.Common.{◌<◌}
-use Rattle.wic_scalar.proofs.MemberLemmas.{All-members_of, rising-members_of}
+use Rattle.wic_scalar.proofs.MemberFacts.{All-members_of, rising-members_of}
 use Rattle.wic_scalar.proofs.set.ScalarBitSet.iter.Goals as goal
 
 pub returns-clause-rising : goal.returns-clause-rising

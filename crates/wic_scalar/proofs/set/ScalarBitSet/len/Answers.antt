@@ -1,5 +1,5 @@
 use Rattle.std.proofs.Common.{sym, ◌∙◌}
-use Rattle.wic_scalar.proofs.SetLemmas.{as_many_listed, at_most_width}
+use Rattle.wic_scalar.proofs.CallFacts.{as_many_listed, at_most_width}
 use Rattle.wic_scalar.proofs.set.ScalarBitSet.len.Goals as goal
 
 pub returns-clause-count : goal.returns-clause-count

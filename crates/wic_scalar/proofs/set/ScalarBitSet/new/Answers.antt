@@ -1,4 +1,4 @@
-use Rattle.wic_scalar.proofs.SetLemmas.{set_of-zero}
+use Rattle.wic_scalar.proofs.CallFacts.{set_of-zero}
 use Rattle.wic_scalar.proofs.set.ScalarBitSet.new.Goals as goal
 
 pub returns : goal.returns

@@ -1,6 +1,6 @@
 use Rattle.std.proofs.Common.{sym, ◌∙◌}
-use Rattle.wic_scalar.proofs.SetFacts.{remove_absent}
-use Rattle.wic_scalar.proofs.SetLemmas.{len-removed, remove_from_and}
+use Rattle.wic_base.proofs.SetFacts.{remove_absent}
+use Rattle.wic_scalar.proofs.CallFacts.{len-removed, remove_from_and}
 use Rattle.wic_scalar.proofs.set.ScalarBitSet.remove.Goals as goal
 
 pub returns-then-not-contains-clause-set : goal.returns-then-not-contains-clause-set

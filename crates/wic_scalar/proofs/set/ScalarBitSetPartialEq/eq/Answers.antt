@@ -1,4 +1,4 @@
-use Rattle.wic_scalar.proofs.SetLemmas.{eq_from_test, same_set_from_test}
+use Rattle.wic_scalar.proofs.CallFacts.{eq_from_test, same_set_from_test}
 use Rattle.wic_scalar.proofs.set.ScalarBitSetPartialEq.eq.Goals as goal
 
 pub returns-clause-value : goal.returns-clause-value

@@ -1,5 +1,6 @@
 use Rattle.std.proofs.Common.{length, refl, ap, inl, arith}
-use Rattle.wic_slab.proofs.DrainLemmas.{entries_first, entries_left, NoneOutside-removed}
+use Rattle.wic_base.proofs.MapFacts.{entries_first}
+use Rattle.wic_slab.proofs.DrainFacts.{entries_left, NoneOutside-removed}
 use Rattle.wic_slab.proofs.drain.DrainIterator.next.Goals as goal
 
 pub at-id-requires : goal.at-id-requires

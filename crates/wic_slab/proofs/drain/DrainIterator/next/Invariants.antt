@@ -1,5 +1,5 @@
 use Rattle.std.proofs.Common.{◌≡◌, ◌-◌}
-use Rattle.wic_slab.proofs.DrainLemmas.{NoneOutside}
+use Rattle.wic_slab.proofs.DrainFacts.{NoneOutside}
 use Rattle.wic_slab.proofs.drain.DrainIterator.next.Given as goal
 
 -- only places with no live id were passed over

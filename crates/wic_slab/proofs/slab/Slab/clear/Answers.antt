@@ -1,5 +1,5 @@
 use Rattle.std.proofs.Common.{arith}
-use Rattle.wic_slab.proofs.SoundLemmas.{IsSound-empty, live_of-empty}
+use Rattle.wic_slab.proofs.SoundFacts.{IsSound-empty, live_of-empty}
 use Rattle.wic_slab.proofs.slab.Slab.clear.Goals as goal
 
 pub invariant_of-self : goal.invariant_of-self

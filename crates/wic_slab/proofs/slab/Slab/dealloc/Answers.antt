@@ -1,21 +1,21 @@
 use Rattle.std.proofs.Common.{Some, refl, sym, ap, ◌∙◌, arith, length-set}
 use Rattle.std.proofs.lemmas.Option.{slice_get_within}
 use Rattle.wic_slab.specs.declared.slab.Entry.TheVariants.{Vacant}
-use Rattle.wic_slab.proofs.LiveLemmas.{live_value, len_positive_from_live}
-use Rattle.wic_slab.proofs.EntryLemmas.{occupied_at, get-occupied, live_of-vacant}
-use Rattle.wic_slab.proofs.SoundLemmas.{vacated, vacated_order, IsSlab-sound}
-use Rattle.wic_slab.proofs.StepLemmas.{GivesBack-made}
+use Rattle.wic_base.proofs.MapFacts.{value_at_key, len_positive_from_key}
+use Rattle.wic_slab.proofs.EntryFacts.{occupied_at, get-occupied, live_of-vacant}
+use Rattle.wic_slab.proofs.SoundFacts.{vacated, vacated_order, IsSlab-sound}
+use Rattle.wic_slab.proofs.StepFacts.{GivesBack-made}
 use Rattle.wic_slab.proofs.slab.Slab.dealloc.Goals as goal
 
 pub overflow_sub-self : goal.overflow_sub-self
 overflow_sub-self g c =
     let live = rw (← c.self.view_is) at c.requires in
-    omega (arith, c.self.invariant.0.counted, len_positive_from_live _ _ live)
+    omega (arith, c.self.invariant.0.counted, len_positive_from_key _ _ live)
 
 pub invariant_of-self : goal.invariant_of-self
 invariant_of-self g c =
     let live = rw (← c.self.view_is) at c.requires in
-    let found = live_value _ _ live in
+    let found = value_at_key _ _ live in
     let as_long = length-set c.self.inside.entries.items c.args.id (Vacant c.self.inside.next) in
     rw (c.replace.ensures.after, c.fresh_after-self-inside.ensures, c.into_raw-place.ensures.number)
     (vacated _ _ _ c.self.inside.fresh c.args.id found.0 c.self.invariant.0 found.1, omega (arith, c.self.invariant.1))
@@ -23,7 +23,7 @@ invariant_of-self g c =
 pub unreachable-requires : goal.unreachable-requires
 unreachable-requires g c =
     let live = rw (← c.self.view_is) at c.requires in
-    let found = live_value _ _ live in
+    let found = value_at_key _ _ live in
     let occupied = occupied_at c.self.inside.entries.items c.args.id found.0 found.1 in
     let vacant = rw c.into_raw-place.ensures.number at
     (c.index_mut.ensures.item ∙ ap Some (sym c.replace.ensures.value ∙ c.in-Vacant.is)) in
@@ -38,7 +38,7 @@ returns-clause-value g c =
 pub returns-clause-gives_back : goal.returns-clause-gives_back
 returns-clause-gives_back g c =
     let live = rw (← c.self.view_is) at c.requires in
-    let found = live_value _ _ live in
+    let found = value_at_key _ _ live in
     let occupied = occupied_at c.self.inside.entries.items c.args.id found.0 found.1 in
     let within = slice_get_within c.self.inside.entries.items c.args.id _ occupied in
     let sound = invariant_of-self g c in

@@ -1,6 +1,6 @@
 use Rattle.std.specs.FinMap.{entries_sorted}
-use Rattle.wic_slab.proofs.DrainLemmas.{drain_in_order, drain_keeps_along}
-use Rattle.wic_slab.proofs.EntryLemmas.{equals_true_from_T}
+use Rattle.wic_slab.proofs.DrainFacts.{drain_in_order, drain_keeps_along}
+use Rattle.wic_base.proofs.MapFacts.{equals_true_from_T}
 use Rattle.wic_slab.proofs.slab.Slab.drain.Goals as goal
 
 pub returns-clause-rising : goal.returns-clause-rising

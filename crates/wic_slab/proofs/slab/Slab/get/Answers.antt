@@ -1,6 +1,6 @@
 use Rattle.std.proofs.Common.{◌≡◌, Some, None, is_some, slice_get, sym, ap, ◌∙◌, true≢false, refl}
 use Rattle.wic_slab.specs.declared.slab.Entry.TheVariants.{Vacant, Occupied}
-use Rattle.wic_slab.proofs.EntryLemmas.{get-occupied, get-vacant, get-past}
+use Rattle.wic_slab.proofs.EntryFacts.{get-occupied, get-vacant, get-past}
 use Rattle.wic_slab.proofs.slab.Slab.get.Goals as goal
 
 pub returns-in-Some-Occupied-clause-value : goal.returns-in-Some-Occupied-clause-value

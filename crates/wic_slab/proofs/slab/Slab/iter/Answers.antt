@@ -1,6 +1,7 @@
 use Rattle.std.proofs.Common.{sym, ap, length, ◌∙◌}
 use Rattle.std.specs.FinMap.{len-entries}
-use Rattle.wic_slab.proofs.EntryLemmas.{equals_true_from_T, entries-live_of, sorted_pairs}
+use Rattle.wic_base.proofs.MapFacts.{equals_true_from_T}
+use Rattle.wic_slab.proofs.EntryFacts.{entries-live_of, sorted_pairs}
 use Rattle.wic_slab.proofs.slab.Slab.iter.Goals as goal
 
 pub returns-clause-pairs : goal.returns-clause-pairs

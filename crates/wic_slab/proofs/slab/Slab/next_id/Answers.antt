@@ -1,4 +1,4 @@
-use Rattle.wic_slab.proofs.SoundLemmas.{IsSlab-sound}
+use Rattle.wic_slab.proofs.SoundFacts.{IsSlab-sound}
 use Rattle.wic_slab.proofs.slab.Slab.next_id.Goals as goal
 
 pub returns-clause-sound : goal.returns-clause-sound

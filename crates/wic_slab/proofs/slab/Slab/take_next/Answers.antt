@@ -2,9 +2,9 @@ use Rattle.std.proofs.Common.{◌≡◌, ◌≢◌, ◌<◌, Some, length, sym, 
 use Rattle.std.proofs.lemmas.List.{length_push}
 use Rattle.wic_slab.specs.declared.slab.Entry.TheVariants.{Occupied}
 use Rattle.wic_slab.specs.Order.{max_capacity, next_id}
-use Rattle.wic_slab.proofs.SoundLemmas.{next_is, count_at_end, pushed, pushed_order, pushed_live, filled, filled_order, filled_live}
-use Rattle.wic_slab.proofs.SoundLemmas.{IsSlab-sound}
-use Rattle.wic_slab.proofs.StepLemmas.{Holds-made}
+use Rattle.wic_slab.proofs.SoundFacts.{next_is, count_at_end, pushed, pushed_order, pushed_live, filled, filled_order, filled_live}
+use Rattle.wic_slab.proofs.SoundFacts.{IsSlab-sound}
+use Rattle.wic_slab.proofs.StepFacts.{Holds-made}
 use Rattle.wic_slab.proofs.slab.Slab.take_next.Goals as goal
 
 pub invariant_of-self : goal.invariant_of-self

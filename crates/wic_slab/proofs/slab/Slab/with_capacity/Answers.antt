@@ -1,5 +1,5 @@
 use Rattle.std.proofs.Common.{arith}
-use Rattle.wic_slab.proofs.SoundLemmas.{IsSound-empty, live_of-empty}
+use Rattle.wic_slab.proofs.SoundFacts.{IsSound-empty, live_of-empty}
 use Rattle.wic_slab.proofs.slab.Slab.with_capacity.Goals as goal
 
 pub invariant_of-result : goal.invariant_of-result

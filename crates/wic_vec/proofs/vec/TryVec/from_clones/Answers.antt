@@ -1,7 +1,7 @@
 use Rattle.std.proofs.Common.{◌+◌, ◌<◌, length, take, rules, ap, arith, subst, sym}
 use Rattle.std.specs.List.{AllZip}
 use Rattle.std.proofs.lemmas.List.{length_push}
-use Rattle.wic_vec.proofs.Copies.{one_more_copy}
+use Rattle.wic_vec.proofs.ListFacts.{one_more_copy}
 use Rattle.wic_vec.proofs.vec.TryVec.from_clones.Goals as goal
 
 pub loop-item-preserved : goal.loop-item-preserved

@@ -9,3 +9,6 @@ returns-clause-items g c =
     let long : length c.resize_with.new.self.items ≡ c.args.new_len =
     search (rules, given_ok _ _ c.unwrap.ensures c.resize_with.ensures.len) in
     appends_answers _ _ _ _ _ _ same said long
+
+pub returns-clause-length : goal.returns-clause-length
+returns-clause-length g c = search (rules, given_ok _ _ c.unwrap.ensures c.resize_with.ensures.len)

@@ -1,4 +1,4 @@
-use Rattle.wic_vec.proofs.Moved.{front_turned_behind}
+use Rattle.wic_vec.proofs.ListFacts.{front_turned_behind}
 use Rattle.wic_vec.proofs.vec.drain.turn_front_to_end.Goals as goal
 
 pub returns : goal.returns
