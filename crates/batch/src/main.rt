@@ -10,7 +10,7 @@ use std::process::ExitCode;
 use std::{env, io};
 use wic_vec::{TryString, TryVec};
 
-/// Ends with the code of the status. Where the words of the command line can't be had nothing is written.
+/// Ends with the code of the status. If the words of the command line can't be had, nothing is written.
 fn main(rt: HostRuntime) -> ExitCode {
     let status = match words(&rt) {
         Ok(words) => {
@@ -23,7 +23,7 @@ fn main(rt: HostRuntime) -> ExitCode {
     ExitCode::from(status.code())
 }
 
-/// The words after the program's name. A word that is no text is answered like one that asks for nothing there is.
+/// The words after the program's name. If a word isn't UTF-8 the status is that of the usage, and nothing is written.
 fn words(rt: &HostRuntime) -> Result<TryVec<TryString>, Status> {
     let mut words = TryVec::new(rt.alloc());
     for word in env::args(rt).map_err(status_of)?.skip(1) {
@@ -34,7 +34,7 @@ fn words(rt: &HostRuntime) -> Result<TryVec<TryString>, Status> {
     Ok(words)
 }
 
-/// The status where the words can't be had.
+/// The status if the words can't be had.
 fn status_of(error: io::Error) -> Status {
     match error.kind() {
         io::ErrorKind::OutOfMemory => Status::Oom,

@@ -1,4 +1,4 @@
-//! Standard input and output as source and sink. Nothing is told of the bytes.
+//! Standard input and output as source and sink. They tell nothing of the bytes, and may be called at any time.
 ghost use Rattle.std.specs.Prelude.{⊤, None};
 
 use crate::flushed::write_flushed;

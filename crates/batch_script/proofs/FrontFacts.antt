@@ -79,7 +79,8 @@ pub one_front : (n m : ℕ) (rest tail : List ℕ) → n < 2 ^ 64 → m < 2 ^ 64
     → decimal n ++ rest ≡ decimal m ++ tail → (n ≡ m) × (rest ≡ tail)
 one_front n m rest tail small few none nor same =
     let long : length (decimal n ++ rest) ≡ length (decimal n) + length rest = length-append (decimal n) rest in
-    let stops = λ (within : length (decimal n) < length (decimal n ++ rest)) (range : IsInRange 48 57 (get_or (decimal n ++ rest) (length (decimal n)) 0)).
+    let stops = λ (within : length (decimal n) < length (decimal n ++ rest))
+    (range : IsInRange 48 57 (get_or (decimal n ++ rest) (length (decimal n)) 0)).
     none (omega (arith, long)) (subst (IsInRange 48 57) (behind (decimal n ++ rest) rest n small none refl) range) in
     let each = λ (k : ℕ) (below : k < length (decimal n)).
     subst (IsInRange 48 57) (sym (within (decimal n ++ rest) rest n small none refl k below)) (decimal_each n small k below) in

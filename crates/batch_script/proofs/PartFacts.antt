@@ -109,7 +109,8 @@ numbers_no_feed (n ∷ m ∷ numbers) valid =
     list_any-append (nat_eq 10) (decimal n) (32 ∷ join_with_byte 32 (map decimal (m ∷ numbers)))
     ∙ or_from _ _ (none_in_decimal 10 n (omega arith) valid.0) (numbers_no_feed (m ∷ numbers) valid.1)
 
-pub line_no_feed : (word numbers : List ℕ) → has_feed word ≡ false → AllByRecursion IsWritable numbers → has_feed (line_of word numbers) ≡ false
+pub line_no_feed : (word numbers : List ℕ) → has_feed word ≡ false → AllByRecursion IsWritable numbers
+    → has_feed (line_of word numbers) ≡ false
 line_no_feed word [] none valid = none
 line_no_feed word (n ∷ numbers) none valid =
     list_any-append (nat_eq 10) word (32 ∷ join_with_byte 32 (map decimal (n ∷ numbers)))

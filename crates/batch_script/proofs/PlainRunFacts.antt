@@ -6,7 +6,7 @@ use Rattle.wic_slab.specs.Order.{max_capacity}
 use Rattle.std.specs.List.{AllByRecursion}
 use Rattle.batch_core.specs.State.{State, empty_state}
 use Rattle.batch_core.specs.Room.{Fits}
-use Rattle.batch_script.specs.Machine.{Item, reserve, show, batch, Reply, reserved, reserve_too_large, no_memory}
+use Rattle.batch_script.specs.Machine.{PlainItem, reserve, show, batch, Reply, reserved, reserve_too_large, no_memory}
 use Rattle.batch_script.specs.Machine.{plain_step, AsksForMore, IsBeyond, ItemStep, Run, plain_replies, IsPlain}
 use Rattle.batch_script.specs.Laws.{AsksForNoMore, FitsIfBatch, BatchesFit, RoomMakesPlain, HasOnePlainRun}
 
@@ -24,7 +24,7 @@ reserve_keeps true state number test more =
 reserve_keeps false state number test more = refl
 
 -- an item that reserves no more keeps the room
-room_kept : (room : ℕ) (state : State ℕ) (item : Item) → state.room ≡ room → AsksForNoMore room item
+room_kept : (room : ℕ) (state : State ℕ) (item : PlainItem) → state.room ≡ room → AsksForNoMore room item
     → (plain_step state item).1.room ≡ room
 room_kept room state (reserve number) is least =
     reserve_keeps (nat_le number max_capacity) state number refl (subst (λ r. ¬ AsksForMore r number) (sym is) least) ∙ is
@@ -32,7 +32,7 @@ room_kept room state show is least = is
 room_kept room state (batch commands ending) is least = is
 
 -- an item that reserves no more and fits isn't beyond the room
-not_beyond : (room : ℕ) (state : State ℕ) (item : Item) → state.room ≡ room → AsksForNoMore room item → FitsIfBatch room state item
+not_beyond : (room : ℕ) (state : State ℕ) (item : PlainItem) → state.room ≡ room → AsksForNoMore room item → FitsIfBatch room state item
     → ¬ IsBeyond state item
 not_beyond room state (reserve number) is least fits beyond = least (subst (λ r. AsksForMore r number) is beyond)
 not_beyond room state show is least fits beyond = beyond
@@ -43,35 +43,37 @@ reserve_answers true state number = λ same. cc
 reserve_answers false state number = λ same. cc
 
 -- the plain reply is never that there was no memory
-plain_answers : (state : State ℕ) (item : Item) → (plain_step state item).0 ≢ no_memory
+plain_answers : (state : State ℕ) (item : PlainItem) → (plain_step state item).0 ≢ no_memory
 plain_answers state (reserve number) = reserve_answers (nat_le number max_capacity) state number
 plain_answers state show = λ same. cc
 plain_answers state (batch commands ending) = λ same. cc
 
 -- the plain run is a run
-plain_is_run : (state : State ℕ) (items : List Item) → Run state items (plain_replies state items)
+plain_is_run : (state : State ℕ) (items : List PlainItem) → Run state items (plain_replies state items)
 plain_is_run state [] = tt
 plain_is_run state (item ∷ items) = ((plain_step state item).1, inl refl, plain_is_run (plain_step state item).1 items)
 
 -- a step that isn't beyond the room is the plain one
-step_is_plain : (state : State ℕ) (item : Item) (reply : Reply) (next : State ℕ) → (¬ IsBeyond state item) → ItemStep state item reply next
+step_is_plain : (state : State ℕ) (item : PlainItem) (reply : Reply) (next : State ℕ) → (¬ IsBeyond state item)
+    → ItemStep state item reply next
     → (reply, next) ≡ plain_step state item
 step_is_plain state item reply next within (inl plain) = plain
 step_is_plain state item reply next within (inr short) = absurd (within short.0)
 
 -- no plain reply is that there was no memory
-plain_replies_plain : (state : State ℕ) (items : List Item) → IsPlain (plain_replies state items)
+plain_replies_plain : (state : State ℕ) (items : List PlainItem) → IsPlain (plain_replies state items)
 plain_replies_plain state [] = tt
 plain_replies_plain state (item ∷ items) = (plain_answers state item, plain_replies_plain (plain_step state item).1 items)
 
 -- a step that isn't answered by want of memory is the plain one
-answered_is_plain : (state : State ℕ) (item : Item) (reply : Reply) (next : State ℕ) → ItemStep state item reply next → reply ≢ no_memory
+answered_is_plain : (state : State ℕ) (item : PlainItem) (reply : Reply) (next : State ℕ) → ItemStep state item reply next
+    → reply ≢ no_memory
     → (reply, next) ≡ plain_step state item
 answered_is_plain state item reply next (inl plain) found = plain
 answered_is_plain state item reply next (inr short) found = absurd (found short.1)
 
 -- a run in which nothing is refused for memory is the plain one
-plain_alone : (state : State ℕ) (items : List Item) (replies : List Reply) → Run state items replies → IsPlain replies
+plain_alone : (state : State ℕ) (items : List PlainItem) (replies : List Reply) → Run state items replies → IsPlain replies
     → replies ≡ plain_replies state items
 plain_alone state [] [] run found = refl
 plain_alone state [] (reply ∷ replies) run found = absurd run
@@ -85,7 +87,8 @@ plain_alone state (item ∷ items) (reply ∷ replies) run found =
     cc
 
 -- in a run from a state with this room, where no item asks for more, nothing is refused for memory
-within_is_plain : (room : ℕ) (state : State ℕ) (items : List Item) (replies : List Reply) → state.room ≡ room → Run state items replies
+within_is_plain : (room : ℕ) (state : State ℕ) (items : List PlainItem) (replies : List Reply) → state.room ≡ room
+    → Run state items replies
     → AllByRecursion (AsksForNoMore room) items → BatchesFit room state items → IsPlain replies
 within_is_plain room state [] [] is run least fits = tt
 within_is_plain room state [] (reply ∷ replies) is run least fits = absurd run
@@ -119,7 +122,7 @@ plain_with_room room items replies limit run least fits =
     record { same = plain_alone empty_state (reserve room ∷ items) (reserved ∷ replies) run plain; plain = plain }
 
 -- the items have exactly one run in which nothing is refused for memory
-pub one_plain_run : (items : List Item) → HasOnePlainRun items
+pub one_plain_run : (items : List PlainItem) → HasOnePlainRun items
 one_plain_run items = record {
   runs = plain_is_run empty_state items;
   is_plain = plain_replies_plain empty_state items;

@@ -4,14 +4,15 @@ use Rattle.std.specs.Prelude.{codes}
 use Rattle.std.specs.List.{AllByRecursion}
 use Rattle.batch_core.specs.declared.command.Command.{Command}
 use Rattle.batch_core.specs.declared.command.End.{End}
-use Rattle.batch_script.specs.Machine.{Item, reserve, show, batch}
+use Rattle.batch_script.specs.Machine.{PlainItem, reserve, show, batch}
 use Rattle.batch_script.specs.Grammar.{Line, IsValidItem, IsValidCommand, line_of, command_line, end_line, printed_lines, all_lines}
 use Rattle.batch_script.specs.Reading.{first_word, first_numbers}
 use Rattle.batch_script.proofs.ScriptFacts.{apart, first_line, batch_lines, command_is_no_end, same_item, no_lines_left}
 
 -- after the lines of items come those of more items
-pub rest-after_items : (done items : List Item) (rest : List Line) → AllByRecursion IsValidItem done → AllByRecursion IsValidItem items
-    → all_lines done ++ rest ≡ all_lines items → (more : List Item) × (rest ≡ all_lines more) × AllByRecursion IsValidItem more
+pub rest-after_items : (done items : List PlainItem) (rest : List Line) → AllByRecursion IsValidItem done
+    → AllByRecursion IsValidItem items
+    → all_lines done ++ rest ≡ all_lines items → (more : List PlainItem) × (rest ≡ all_lines more) × AllByRecursion IsValidItem more
 rest-after_items [] items rest valid sound same = (items, same, sound)
 rest-after_items (item ∷ done) [] rest valid sound same =
     absurd (no_lines_left item (all_lines done ++ rest) (sym (sym (append_assoc (printed_lines item) (all_lines done) rest) ∙ same)))
@@ -22,10 +23,11 @@ rest-after_items (item ∷ done) (other ∷ items) rest valid sound same =
 
 -- the line is the first one of a valid item
 abbrev pub StartsItem : Line → Type 0
-StartsItem line = (item : Item) × IsValidItem item × (line ≡ line_of (first_word item) (first_numbers item))
+StartsItem line = (item : PlainItem) × IsValidItem item × (line ≡ line_of (first_word item) (first_numbers item))
 
 -- a script begins with the first line of an item
-pub starts_item : (line : Line) (rest : List Line) (items : List Item) → AllByRecursion IsValidItem items → line ∷ rest ≡ all_lines items
+pub starts_item : (line : Line) (rest : List Line) (items : List PlainItem) → AllByRecursion IsValidItem items
+    → line ∷ rest ≡ all_lines items
     → StartsItem line
 starts_item line rest [] valid same = absurd (let bad : _ = same in cc)
 starts_item line rest (reserve number ∷ items) valid same = (reserve number, valid.0, cc)
@@ -48,7 +50,8 @@ line_in_batch (c ∷ cs) (d ∷ ds) f line rest more valid sound same =
     line_in_batch cs ds f line rest more valid.1 sound.1 tails
 
 -- after the commands of a batch comes one more, or its end
-pub next_line_in_batch : (cs : List (Command ℕ)) (line : Line) (rest : List Line) (items : List Item) → AllByRecursion IsValidCommand cs
+pub next_line_in_batch : (cs : List (Command ℕ)) (line : Line) (rest : List Line) (items : List PlainItem)
+    → AllByRecursion IsValidCommand cs
     → AllByRecursion IsValidItem items → (codes "begin" ∷ map command_line cs) ++ line ∷ rest ≡ all_lines items → GoesOn line
 next_line_in_batch cs line rest [] valid sound same = absurd (let bad : _ = same in cc)
 next_line_in_batch cs line rest (reserve number ∷ items) valid sound same = absurd (apart _ _ refl (ap first_line same))
@@ -67,7 +70,7 @@ unended (c ∷ cs) (d ∷ ds) f more valid same =
     let tails : map command_line cs ≡ batch_lines ds f more = cc in unended cs ds f more valid.1 tails
 
 -- a batch with no end is no script
-pub begun_is_no_script : (cs : List (Command ℕ)) (items : List Item) → AllByRecursion IsValidCommand cs
+pub begun_is_no_script : (cs : List (Command ℕ)) (items : List PlainItem) → AllByRecursion IsValidCommand cs
     → codes "begin" ∷ map command_line cs ≡ all_lines items → ⊥
 begun_is_no_script cs [] valid same = cc
 begun_is_no_script cs (reserve number ∷ items) valid same = apart _ _ refl (ap first_line same)

@@ -9,7 +9,7 @@ use Rattle.batch_core.specs.declared.command.Command.{Command}
 use Rattle.batch_core.specs.declared.command.Command.TheVariants.{Push, Pop, Set, Alloc, Free, Put, Insert, Remove, Truncate}
 use Rattle.batch_core.specs.declared.command.End.{End}
 use Rattle.batch_core.specs.declared.command.End.TheVariants.{Commit}
-use Rattle.batch_script.specs.Machine.{Item, reserve, show, batch}
+use Rattle.batch_script.specs.Machine.{PlainItem, reserve, show, batch}
 use Rattle.batch_script.specs.Grammar.{Line, IsValidItem, IsValidCommand, word_of, numbers_of, line_of, command_line, end_line}
 use Rattle.batch_script.specs.Grammar.{printed_lines, all_lines, lines_of, IsOpen, IsScript, IsScriptOf, IsFaultLine}
 use Rattle.batch_script.specs.Reading.{AreRead, HasParts, HasNoParts, open_lines, first_word, first_numbers}
@@ -18,11 +18,12 @@ use Rattle.batch_script.proofs.LineFacts.{same_line}
 use Rattle.batch_script.proofs.ScriptFacts.{command_word, end_word}
 use Rattle.batch_script.proofs.PrefixFacts.{rest-after_items, StartsItem, starts_item, GoesOn, next_line_in_batch, begun_is_no_script}
 
-all_lines-append : (xs ys : List Item) → all_lines (xs ++ ys) ≡ all_lines xs ++ all_lines ys
+all_lines-append : (xs ys : List PlainItem) → all_lines (xs ++ ys) ≡ all_lines xs ++ all_lines ys
 all_lines-append xs ys = flat_map-append printed_lines xs ys
 
 -- an item of one line
-pub read-item : (items : List Item) (item : Item) (lines : List Line) (line : Line) → AreRead items None lines → IsValidItem item
+pub read-item : (items : List PlainItem) (item : PlainItem) (lines : List Line) (line : Line) → AreRead items None lines
+    → IsValidItem item
     → printed_lines item ≡ line ∷ [] → AreRead (items ++ item ∷ []) None (lines ++ line ∷ [])
 read-item items item lines line was valid printed = record {
   valid_items = AllByRecursion-append IsValidItem items (item ∷ []) was.valid_items (valid, tt);
@@ -33,7 +34,7 @@ read-item items item lines line was valid printed = record {
 }
 
 -- a batch begins
-pub read-begin : (items : List Item) (lines : List Line) (line : Line) → AreRead items None lines → line ≡ codes "begin"
+pub read-begin : (items : List PlainItem) (lines : List Line) (line : Line) → AreRead items None lines → line ≡ codes "begin"
     → AreRead items (Some []) (lines ++ line ∷ [])
 read-begin items lines line was e = record {
   valid_items = was.valid_items;
@@ -42,7 +43,7 @@ read-begin items lines line was e = record {
 }
 
 -- a command follows
-pub read-command : (items : List Item) (commands : List (Command ℕ)) (lines : List Line) (line : Line) (command : Command ℕ)
+pub read-command : (items : List PlainItem) (commands : List (Command ℕ)) (lines : List Line) (line : Line) (command : Command ℕ)
     → AreRead items (Some commands) lines → IsValidCommand command → line ≡ command_line command
     → AreRead items (Some (commands ++ command ∷ [])) (lines ++ line ∷ [])
 read-command items commands lines line command was valid e = record {
@@ -53,7 +54,7 @@ read-command items commands lines line command was valid e = record {
 }
 
 -- a batch ends
-pub read-end : (items : List Item) (commands : List (Command ℕ)) (lines : List Line) (line : Line) (ending : End)
+pub read-end : (items : List PlainItem) (commands : List (Command ℕ)) (lines : List Line) (line : Line) (ending : End)
     → AreRead items (Some commands) lines → line ≡ end_line ending
     → AreRead (items ++ batch commands ending ∷ []) None (lines ++ line ∷ [])
 read-end items commands lines line ending was e = record {
@@ -63,7 +64,8 @@ read-end items commands lines line ending was e = record {
 }
 
 -- what was read begins a script
-pub IsOpen-read : (items : List Item) (begun : Option (List (Command ℕ))) (lines : List Line) → AreRead items begun lines → IsOpen lines
+pub IsOpen-read : (items : List PlainItem) (begun : Option (List (Command ℕ))) (lines : List Line) → AreRead items begun lines
+    → IsOpen lines
 IsOpen-read items None lines was = (items, [], was.valid_items, rw was.same (simp append-nil))
 IsOpen-read items (Some commands) lines was = (
   items ++ batch commands Commit ∷ [],
@@ -73,7 +75,7 @@ IsOpen-read items (Some commands) lines was = (
 )
 
 -- the line after these is no first line of an item
-pub stuck_outside : (items : List Item) (lines : List Line) (line : Line) → AreRead items None lines → ¬ StartsItem line
+pub stuck_outside : (items : List PlainItem) (lines : List Line) (line : Line) → AreRead items None lines → ¬ StartsItem line
     → IsOpen (lines ++ line ∷ []) → ⊥
 stuck_outside items lines line was never opened =
     let apart : all_lines items ++ line ∷ opened.1 ≡ all_lines opened.0 = simp (was.same, append_assoc, append-nil) at opened.3 in
@@ -81,7 +83,7 @@ stuck_outside items lines line was never opened =
     never (starts_item line opened.1 more.0 more.2 more.1)
 
 -- in a batch only a command or its end goes on
-pub stuck_in_batch : (items : List Item) (commands : List (Command ℕ)) (lines : List Line) (line : Line)
+pub stuck_in_batch : (items : List PlainItem) (commands : List (Command ℕ)) (lines : List Line) (line : Line)
     → AreRead items (Some commands) lines → ¬ GoesOn line → IsOpen (lines ++ line ∷ []) → ⊥
 stuck_in_batch items commands lines line was never opened =
     let apart : all_lines items ++ ((codes "begin" ∷ map command_line commands) ++ line ∷ opened.1) ≡ all_lines opened.0 =
@@ -91,7 +93,7 @@ stuck_in_batch items commands lines line was never opened =
     never (next_line_in_batch commands line opened.1 more.0 was.valid_open more.2 more.1)
 
 -- the word and the numbers of an item's first line
-first_parts : (item : Item) → IsValidItem item
+first_parts : (item : PlainItem) → IsValidItem item
     → HasParts (line_of (first_word item) (first_numbers item)) (first_word item) (first_numbers item) × (length (first_numbers item) ≤ 2)
 first_parts (reserve number) valid = (record { is_word = refl; writable = (valid, tt); same = refl }, omega arith)
 first_parts show valid = (record { is_word = refl; writable = tt; same = refl }, omega arith)
@@ -125,7 +127,7 @@ none_goes_on line never (inr one) =
 
 -- a word and numbers that start no item
 pub parts_start_none : (line word numbers : List ℕ) → HasParts line word numbers
-    → ((item : Item) → first_numbers item ≡ numbers → first_word item ≢ word) → ¬ StartsItem line
+    → ((item : PlainItem) → first_numbers item ≡ numbers → first_word item ≢ word) → ¬ StartsItem line
 parts_start_none line word numbers has never starts =
     let parts = (first_parts starts.0 starts.1).0 in
     let same = same_line (first_word starts.0) word (first_numbers starts.0) numbers parts.is_word has.is_word parts.writable has.writable
@@ -145,7 +147,8 @@ parts_go_on_nowhere line word numbers has never nor (inr one) =
     nor one.0 (sym same.1) same.0
 
 -- a batch that has begun and not ended is no script
-pub begun-IsScript : (items : List Item) (commands : List (Command ℕ)) (input : List ℕ) → AreRead items (Some commands) (lines_of input)
+pub begun-IsScript : (items : List PlainItem) (commands : List (Command ℕ)) (input : List ℕ)
+    → AreRead items (Some commands) (lines_of input)
     → IsScript input → ⊥
 begun-IsScript items commands input was script =
     let apart : all_lines items ++ (codes "begin" ∷ map command_line commands) ≡ all_lines script.0 = sym was.same ∙ script.1.lines in
@@ -153,7 +156,7 @@ begun-IsScript items commands input was script =
     begun_is_no_script commands more.0 was.valid_open more.1
 
 -- with all lines read and no batch begun the input is the script of the items
-pub IsScriptOf-read : (items : List Item) (input : List ℕ) → AreRead items None (lines_of input) → IsScriptOf input items
+pub IsScriptOf-read : (items : List PlainItem) (input : List ℕ) → AreRead items None (lines_of input) → IsScriptOf input items
 IsScriptOf-read items input was = record { valid = was.valid_items; lines = was.same ∙ append-nil (all_lines items) }
 
 -- a front of lines that begin a script begins one too
@@ -223,7 +226,7 @@ IsFaultLine-end input count opened next within =
     }
 
 -- where a line is no word with up to two numbers no script goes on with it
-pub stuck_with_none : (items : List Item) (begun : Option (List (Command ℕ))) (lines : List Line) (line : Line)
+pub stuck_with_none : (items : List PlainItem) (begun : Option (List (Command ℕ))) (lines : List Line) (line : Line)
     → AreRead items begun lines
     → HasNoParts line → IsOpen (lines ++ line ∷ []) → ⊥
 stuck_with_none items None lines line was never = stuck_outside items lines line was (none_starts line never)

@@ -2,16 +2,19 @@
 use Rattle.std.proofs.Common.{◌≡◌, List, [], ◌∷◌, refl, inr}
 use Rattle.std.specs.Prelude.{codes}
 use Rattle.std.specs.Fmt.{digits}
-use Rattle.batch_core.specs.State.{empty_state}
-use Rattle.batch_core.specs.declared.command.Command.TheVariants.{Push, Pop, Set, Insert, Remove, Truncate}
+use Rattle.std.specs.FinMap.{empty, insert}
+use Rattle.std.specs.FinSet.{empty as no_members, insert as with_member}
+use Rattle.wic_bitset.specs.Rising.{rising}
+use Rattle.batch_core.specs.State.{empty_state, no_contents}
+use Rattle.batch_core.specs.declared.command.Command.TheVariants.{Alloc, Push, Pop, Set, Insert, Remove, Truncate}
 use Rattle.batch_core.specs.declared.command.End.TheVariants.{Commit, Abort}
-use Rattle.batch_script.specs.Machine.{Item, Run, reserve, show, batch, no_memory, plain_step}
-use Rattle.batch_script.specs.Generated.{draw, command_of, generated}
+use Rattle.batch_script.specs.Machine.{PlainItem, Run, reserve, show, batch, no_memory, plain_step, shown_of}
+use Rattle.batch_script.specs.Generated.{draw, drawn_command, generated}
 use Rattle.batch_script.specs.Grammar.{Line, command_line, lines_of, all_lines}
 use Rattle.batch_script.specs.Reply.{reply_lines}
 
 -- the lines of the reply to an item on its own, where memory is found
-abbrev replied : Item → List Line
+abbrev replied : PlainItem → List Line
 replied item = reply_lines (plain_step empty_state item).0
 
 -- the empty input is the script of no items, and a line feed alone is one empty line
@@ -62,6 +65,20 @@ no_such_room = refl
 greatest_room : replied (reserve 4294967294) ≡ codes "reserved" ∷ []
 greatest_room = refl
 
+-- contents that are known are shown by computing, also those that a batch leaves
+few_are_shown : reply_lines (shown_of (record no_contents {
+  list = 7 ∷ [];
+  set = with_member (with_member no_members 9) 3;
+  live = insert (insert empty 1 12) 0 5;
+})) ≡ codes "list 7" ∷ codes "set 3 9" ∷ codes "table 0=5 1=12" ∷ codes "next 0" ∷ []
+unfolding rising digits
+few_are_shown = refl
+
+shown_after_a_batch : reply_lines (plain_step (plain_step empty_state (batch (Insert 9 ∷ Insert 3 ∷ Alloc 5 ∷ Alloc 12 ∷ []) Commit)).1
+    show).0 ≡ codes "list" ∷ codes "set 3 9" ∷ codes "table 0=5 1=12" ∷ codes "next 2" ∷ []
+unfolding rising digits
+shown_after_a_batch = refl
+
 -- a batch that doesn't fit the room may be refused for memory: with no room any but the empty one
 refused_for_memory : Run empty_state (batch (Push 7 ∷ []) Commit ∷ []) (no_memory ∷ [])
 refused_for_memory = (empty_state, inr ((λ fits. elim (fits.few) [ ]), refl, refl), tt)
@@ -73,5 +90,5 @@ no_batches = refl
 first_draw : draw 0 0 ≡ 167951807
 first_draw = refl
 
-first_command : command_of 0 ≡ Remove 1800
+first_command : drawn_command 0 ≡ Remove 1800
 first_command = refl

@@ -13,10 +13,10 @@ use Rattle.batch_core.specs.declared.command.Cause.TheVariants.{Empty, Position,
 use Rattle.batch_core.specs.declared.command.Command.{Command}
 use Rattle.batch_core.specs.declared.command.End.{End}
 use Rattle.batch_core.specs.declared.record.Record.{Record}
-use Rattle.batch_script.specs.declared.item.Item.{Item as SourceItem}
+use Rattle.batch_script.specs.declared.item.Item.{Item}
 use Rattle.batch_script.specs.declared.kind.BatchKind.{BatchKind}
 use Rattle.batch_script.specs.Kind.{kind_of_cause, kind_text}
-use Rattle.batch_script.specs.Machine.{Item, batch, Reply, answered, ItemStep, Run}
+use Rattle.batch_script.specs.Machine.{PlainItem, batch, Reply, answered, ItemStep, Run}
 use Rattle.batch_script.specs.Reading.{plain_item, plain_items}
 use Rattle.batch_script.specs.Reply.{record_lines, outcome_lines, reply_lines, cause_text, text_of, text_of_lines}
 use Rattle.batch_script.specs.RunText.{IsTextOfRun, Answers, state_of}
@@ -57,7 +57,7 @@ cause_text-kind cause why is = rw is refl
 
 -- a run of all items, as far as it has come: the replies so far are written, and any run of the items that are left
 -- goes on from them
-pub record IsUnderWay (all : List Item) (workspace : Workspace ℕ) (text : List ℕ) (left : List SourceItem) (count : ℕ) : Type 0 where
+pub record IsUnderWay (all : List PlainItem) (workspace : Workspace ℕ) (text : List ℕ) (left : List Item) (count : ℕ) : Type 0 where
   -- the replies so far
   pub replies : List Reply
   -- the text is that of these replies
@@ -68,7 +68,7 @@ pub record IsUnderWay (all : List Item) (workspace : Workspace ℕ) (text : List
   pub counted : count ≡ length left
 
 -- it goes on by one item
-pub under_way-more : (all : List Item) (old new : Workspace ℕ) (before after : List ℕ) (left rest : List SourceItem) (item : SourceItem)
+pub under_way-more : (all : List PlainItem) (old new : Workspace ℕ) (before after : List ℕ) (left rest : List Item) (item : Item)
     (count fewer : ℕ) → IsUnderWay all old before left count → left ≡ item ∷ rest → fewer + 1 ≡ count
     → Answers (plain_item item) old new before after → IsUnderWay all new after rest fewer
 under_way-more all old new before after left rest item count fewer so_far parts one answer = record {
@@ -80,7 +80,7 @@ under_way-more all old new before after left rest item count fewer so_far parts 
 }
 
 -- and where no item is left the text is that of a run of all items
-pub text_of_run : (all : List Item) (workspace : Workspace ℕ) (text : List ℕ) (left : List SourceItem) (count : ℕ)
+pub text_of_run : (all : List PlainItem) (workspace : Workspace ℕ) (text : List ℕ) (left : List Item) (count : ℕ)
     → IsUnderWay all workspace text left count → count ≡ 0 → IsTextOfRun all text
 text_of_run all workspace text [] count so_far none = (so_far.replies, rw append-nil at (so_far.goes_on [] tt), so_far.written)
 text_of_run all workspace text (item ∷ left) count so_far none = absurd (omega (arith, so_far.counted))

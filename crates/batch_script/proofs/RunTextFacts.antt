@@ -8,7 +8,7 @@ use Rattle.batch_core.specs.State.{State, empty_state}
 use Rattle.batch_core.specs.declared.record.Record.TheVariants.{Pushed, Popped, Replaced, Allocated, Freed, Put as Overwritten}
 use Rattle.batch_core.specs.declared.record.Record.TheVariants.{Inserted, Removed, Cut, Truncated}
 use Rattle.batch_core.specs.Batch.{Outcome, committed, aborted, refused, outcome_of}
-use Rattle.batch_script.specs.Machine.{Item, reserve, show, batch, Reply, no_memory, plain_step, IsBeyond, ItemStep, Run}
+use Rattle.batch_script.specs.Machine.{PlainItem, reserve, show, batch, Reply, no_memory, plain_step, IsBeyond, ItemStep, Run}
 use Rattle.batch_script.specs.Reply.{reply_lines, outcome_lines, text_of_lines, text_of}
 use Rattle.batch_script.specs.Laws.{TextTellsRun}
 use Rattle.batch_script.proofs.PlainRunFacts.{reserve_by}
@@ -50,14 +50,14 @@ reserve_tells true state number rest = refl
 reserve_tells false state number rest = refl
 
 -- where an item may be refused for memory, the text of its plain reply tells that it wasn't
-plain_tells : (state : State ℕ) (item : Item) (rest : List ℕ) → IsBeyond state item
+plain_tells : (state : State ℕ) (item : PlainItem) (rest : List ℕ) → IsBeyond state item
     → tells_no_memory (reply_text (plain_step state item).0 ++ rest) ≡ false
 plain_tells state (reserve number) rest beyond = reserve_tells (nat_le number max_capacity) state number rest
 plain_tells state show rest beyond = absurd beyond
 plain_tells state (batch commands ending) rest beyond = batch_tells (outcome_of state.contents commands ending).0 rest
 
 -- the text of a plain reply and that of want of memory are apart, whatever follows them
-texts_apart : (state : State ℕ) (item : Item) (rest more : List ℕ) → IsBeyond state item
+texts_apart : (state : State ℕ) (item : PlainItem) (rest more : List ℕ) → IsBeyond state item
     → reply_text (plain_step state item).0 ++ rest ≡ reply_text no_memory ++ more → ⊥
 texts_apart state item rest more beyond same =
     let plain = plain_tells state item rest beyond in
@@ -66,7 +66,7 @@ texts_apart state item rest more beyond same =
     cc
 
 -- state, item and the text that begins with the reply's determine the reply and the next state
-same_step : (state : State ℕ) (item : Item) (reply other : Reply) (next after : State ℕ) (rest more : List ℕ)
+same_step : (state : State ℕ) (item : PlainItem) (reply other : Reply) (next after : State ℕ) (rest more : List ℕ)
     → ItemStep state item reply next → ItemStep state item other after
     → reply_text reply ++ rest ≡ reply_text other ++ more → (reply ≡ other) × (next ≡ after)
 same_step state item reply other next after rest more (inl plain) (inl simple) same =
@@ -80,7 +80,7 @@ same_step state item reply other next after rest more (inr short) (inl plain) sa
 same_step state item reply other next after rest more (inr short) (inr wanting) same = (cc, cc)
 
 -- so text and items determine the replies, from every state
-same_run : (state : State ℕ) (items : List Item) (replies others : List Reply) → Run state items replies → Run state items others
+same_run : (state : State ℕ) (items : List PlainItem) (replies others : List Reply) → Run state items replies → Run state items others
     → text_of replies ≡ text_of others → replies ≡ others
 same_run state [] [] [] run course same = refl
 same_run state [] [] (other ∷ others) run course same = absurd course

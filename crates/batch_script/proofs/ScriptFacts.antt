@@ -7,7 +7,7 @@ use Rattle.batch_core.specs.declared.command.Command.{Command}
 use Rattle.batch_core.specs.declared.command.Command.TheVariants.{Push, Pop, Set, Alloc, Free, Put, Insert, Remove, Truncate}
 use Rattle.batch_core.specs.declared.command.End.{End}
 use Rattle.batch_core.specs.declared.command.End.TheVariants.{Commit, Abort}
-use Rattle.batch_script.specs.Machine.{Item, reserve, show, batch}
+use Rattle.batch_script.specs.Machine.{PlainItem, reserve, show, batch}
 use Rattle.batch_script.specs.Grammar.{Line, line_of, word_of, numbers_of, command_line, end_line, printed_lines, all_lines}
 use Rattle.batch_script.specs.Grammar.{IsValidCommand}
 use Rattle.batch_script.specs.Grammar.{IsValidItem}
@@ -15,8 +15,8 @@ use Rattle.batch_script.specs.Reading.{has_space}
 use Rattle.batch_script.proofs.LineFacts.{same_line}
 
 -- the command of a word and its numbers
-abbrev command_of : List ℕ → ℕ → ℕ → Command ℕ
-command_of word first second =
+abbrev command_from : List ℕ → ℕ → ℕ → Command ℕ
+command_from word first second =
     if bytes_eq word (codes "push") then Push first
     else if bytes_eq word (codes "pop") then Pop
     else if bytes_eq word (codes "set") then Set first second
@@ -29,7 +29,7 @@ command_of word first second =
 
 -- the command that these parts of it make
 abbrev made_again : Command ℕ → Command ℕ
-made_again command = command_of (word_of command) (get_or (numbers_of command) 0 0) (get_or (numbers_of command) 1 0)
+made_again command = command_from (word_of command) (get_or (numbers_of command) 0 0) (get_or (numbers_of command) 1 0)
 
 same_again : (command : Command ℕ) → made_again command ≡ command
 same_again (Push value) = refl
@@ -65,7 +65,7 @@ same_command command other valid sound same =
     let parts = same_line (word_of command) (word_of other) (numbers_of command) (numbers_of other) (command_word command).0
     (command_word other).0 valid sound same in
     sym (same_again command)
-    ∙ (λ i. command_of (parts.0 i) (get_or (parts.1 i) 0 0) (get_or (parts.1 i) 1 0))
+    ∙ (λ i. command_from (parts.0 i) (get_or (parts.1 i) 0 0) (get_or (parts.1 i) 1 0))
     ∙ same_again other
 
 -- the line that ends a batch has no space, and is a word that ends a batch
@@ -125,7 +125,7 @@ same_batch (first ∷ commands) (second ∷ others) ending other rest more valid
     (cc, later.1, later.2)
 
 -- two items that begin the same lines are the same, and are followed by the same
-pub same_item : (item other : Item) (rest more : List Line) → IsValidItem item → IsValidItem other
+pub same_item : (item other : PlainItem) (rest more : List Line) → IsValidItem item → IsValidItem other
     → printed_lines item ++ rest ≡ printed_lines other ++ more → (item ≡ other) × (rest ≡ more)
 same_item (reserve number) (reserve amount) rest more valid sound same =
     let lines : line_of (codes "reserve") (number ∷ []) ≡ line_of (codes "reserve") (amount ∷ []) = cc in
@@ -147,13 +147,13 @@ same_item (batch commands ending) (batch others end) rest more valid sound same 
     (cc, parts.2)
 
 -- the lines of an item, and what follows them, are never none
-pub no_lines_left : (item : Item) (rest : List Line) → [] ≡ printed_lines item ++ rest → ⊥
+pub no_lines_left : (item : PlainItem) (rest : List Line) → [] ≡ printed_lines item ++ rest → ⊥
 no_lines_left (reserve number) rest same = let bad : _ = same in cc
 no_lines_left show rest same = let bad : _ = same in cc
 no_lines_left (batch commands ending) rest same = let bad : _ = same in cc
 
 -- valid items that are printed alike, line for line, are the same items
-pub one_script : (items others : List Item) → AllByRecursion IsValidItem items → AllByRecursion IsValidItem others
+pub one_script : (items others : List PlainItem) → AllByRecursion IsValidItem items → AllByRecursion IsValidItem others
     → all_lines items ≡ all_lines others → items ≡ others
 one_script [] [] valid sound same = refl
 one_script [] (other ∷ others) valid sound same = absurd (no_lines_left other (all_lines others) same)

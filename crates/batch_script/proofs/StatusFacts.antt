@@ -1,5 +1,6 @@
 -- What follows from how the program came to its result.
-use Rattle.std.proofs.Common.{◌≡◌, ◌⊎◌, ◌≤◌, ◌<◌, ℕ, List, [], ◌∷◌, ◌++◌, length, map, refl, sym, ap, ◌∙◌, subst, inl, inr, arith, Option, Some}
+use Rattle.std.proofs.Common.{◌≡◌, ◌⊎◌, ◌≤◌, ◌<◌, ℕ, List, [], ◌∷◌, ◌++◌, length, map, refl, sym, ap, ◌∙◌, subst, inl, inr, arith, Option}
+use Rattle.std.proofs.Common.{Some}
 use Rattle.wic_vec.specs.TryString.{TryString}
 use Rattle.batch_core.specs.State.{empty_state}
 use Rattle.batch_script.specs.Answer.{ReadsAll, status_of, text_of_answer}
@@ -7,7 +8,7 @@ use Rattle.batch_script.specs.Device.{Use, HasFaults, OfTold}
 use Rattle.batch_script.specs.Generated.{generated}
 use Rattle.batch_script.specs.Grammar.{IsScriptOf}
 use Rattle.batch_script.specs.Headline.{Premises, RunsWhole, WantsMemory}
-use Rattle.batch_script.specs.Machine.{Item, Run}
+use Rattle.batch_script.specs.Machine.{PlainItem, Run}
 use Rattle.batch_script.specs.Program.{AsksForSummary, SummarizesRun, batch_meaning}
 use Rattle.batch_script.specs.RunText.{IsRunText}
 use Rattle.batch_script.specs.Status.{CallsFor, Concludes, EndsAmong, Finishes, IsAmong, Meaning, Offers, RepliesTo}
@@ -129,7 +130,8 @@ module _ (meaning : Meaning) (sound : IsMeaning meaning) (words : List TryString
   }
 
 -- the results that a call can have, by how it came to this one
-pub ends_lem : (meaning : Meaning) → IsMeaning meaning → (words : List TryString) (source sink : Use) (writes : ℕ → Type 0) (result : Status)
+pub ends_lem : (meaning : Meaning) → IsMeaning meaning
+    → (words : List TryString) (source sink : Use) (writes : ℕ → Type 0) (result : Status)
     → Concludes meaning words source sink writes result → EndsAmong meaning words source sink result
 ends_lem meaning sound words source sink writes result how =
     ends_by meaning sound words source how.text sink writes result how.status how.called_for how.finished
@@ -192,19 +194,20 @@ batch_sound = record {
 }
 
 -- the text of one run of the items
-runs : (result : Status) (written_after : Option (List ℕ)) (input held text : List ℕ) (items : List Item) → result ≡ Done
+runs : (result : Status) (written_after : Option (List ℕ)) (input held text : List ℕ) (items : List PlainItem) → result ≡ Done
     → IsRunText input text → IsScriptOf input items → written_after ≡ Some (held ++ text) → RunsWhole result written_after held items
 runs result written_after input held text items is text_of_run script gained =
     let same = one_script text_of_run.0 items text_of_run.1.valid script.valid (sym text_of_run.1.lines ∙ script.lines) in
     record {
       done = is;
       replies = text_of_run.2.0;
-      run = subst (λ (read : List Item). Run empty_state read text_of_run.2.0) same text_of_run.2.1;
+      run = subst (λ (read : List PlainItem). Run empty_state read text_of_run.2.0) same text_of_run.2.1;
       gained = gained ∙ ap (λ bytes. Some (held ++ bytes)) text_of_run.2.2;
     }
 
 -- the line of out of memory, whole
-wants : (words : List TryString) (source sink : Use) (result : Status) (held : List ℕ) (wrote : Wrote batch_meaning words source sink result)
+wants : (words : List TryString) (source sink : Use) (result : Status) (held : List ℕ)
+    (wrote : Wrote batch_meaning words source sink result)
     → sink.told ≡ Some held → result ≡ Oom → WantsMemory result sink.told_after held
 wants words source sink result held wrote told is =
     let called : CallsFor batch_meaning words source Oom wrote.text =
@@ -213,7 +216,7 @@ wants words source sink result held wrote told is =
       gained = wrote.gained held told ∙ ap (λ bytes. Some (held ++ bytes)) called.2;
     }
 
-headline_by : (words : List TryString) (source sink : Use) (result : Status) (input held : List ℕ) (items : List Item)
+headline_by : (words : List TryString) (source sink : Use) (result : Status) (input held : List ℕ) (items : List PlainItem)
     → Wrote batch_meaning words source sink result → Premises words source sink input held items → (result ≡ Done) ⊎ (result ≡ Oom)
     → RunsWhole result sink.told_after held items ⊎ WantsMemory result sink.told_after held
 headline_by words source sink result input held items wrote premises (inl is) =
@@ -227,7 +230,7 @@ headline_by words source sink result input held items wrote premises (inr is) =
 
 -- the headline, by how the call came to its result
 pub headline_lem : (words : List TryString) (source sink : Use) (writes : ℕ → Type 0) (result : Status)
-    → Concludes batch_meaning words source sink writes result → (input held : List ℕ) (items : List Item)
+    → Concludes batch_meaning words source sink writes result → (input held : List ℕ) (items : List PlainItem)
     → Premises words source sink input held items
     → RunsWhole result sink.told_after held items ⊎ WantsMemory result sink.told_after held
 headline_lem words source sink writes result how input held items premises =
@@ -235,7 +238,8 @@ headline_lem words source sink writes result how input held items premises =
     headline_by words source sink result input held items
     (wrote_lem batch_meaning words source sink writes result how premises.sink_quiet) premises
     (two_left Done result source sink
-    (ends.script input (record { no_words = premises.no_words; told = premises.source_tells }) premises.within_limit (items, premises.script))
+    (ends.script input (record { no_words = premises.no_words; told = premises.source_tells }) premises.within_limit
+    (items, premises.script))
     ends.read_fault ends.write_fault premises.source_quiet premises.sink_quiet)
 
 summary_by : (words : List TryString) (source sink : Use) (result : Status) (seed count : ℕ) (held : List ℕ)

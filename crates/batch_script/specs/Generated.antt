@@ -5,7 +5,7 @@ use Rattle.batch_core.specs.declared.command.Command.{Command}
 use Rattle.batch_core.specs.declared.command.Command.TheVariants.{Push, Pop, Set, Alloc, Free, Put, Insert, Remove}
 use Rattle.batch_core.specs.declared.command.End.{End}
 use Rattle.batch_core.specs.declared.command.End.TheVariants.{Commit, Abort}
-use Rattle.batch_script.specs.Machine.{Item, reserve, batch}
+use Rattle.batch_script.specs.Machine.{PlainItem, reserve, batch}
 
 -- each number is followed by this one
 abbrev pub next_number : ℕ → ℕ
@@ -33,17 +33,17 @@ command_of_draws kind place value =
     else Remove (place % 4096)
 
 -- the command of the three draws from this number on
-abbrev pub command_of : ℕ → Command ℕ
-command_of number = command_of_draws (draw 0 number % 16) (draw 1 number) (draw 2 number)
+abbrev pub drawn_command : ℕ → Command ℕ
+drawn_command number = command_of_draws (draw 0 number % 16) (draw 1 number) (draw 2 number)
 
 -- the end of a batch: one draw in four aborts it
 abbrev pub end_of : ℕ → End
 end_of drawn = if nat_lt (drawn % 4) 1 then Abort else Commit
 
 -- the batch of the 25 draws from this number on: eight commands of three draws each, and its end
-abbrev pub batch_of : ℕ → Item
-batch_of number = batch (map (λ k. command_of (number_after (3 * k) number)) (range_with_len 0 8)) (end_of (draw 24 number))
+abbrev pub batch_of : ℕ → PlainItem
+batch_of number = batch (map (λ k. drawn_command (number_after (3 * k) number)) (range_with_len 0 8)) (end_of (draw 24 number))
 
 -- the script of a seed and a number of batches: a room, and then the batches, of 25 draws each
-abbrev pub generated : ℕ → ℕ → List Item
+abbrev pub generated : ℕ → ℕ → List PlainItem
 generated seed count = reserve 4096 ∷ map (λ k. batch_of (number_after (25 * k) seed)) (range_with_len 0 count)

@@ -6,7 +6,7 @@ use Rattle.batch_core.specs.declared.command.Command.{Command}
 use Rattle.batch_core.specs.declared.command.Command.TheVariants.{Push, Pop, Set, Alloc, Free, Put, Insert, Remove, Truncate}
 use Rattle.batch_core.specs.declared.command.End.{End}
 use Rattle.batch_core.specs.declared.command.End.TheVariants.{Commit, Abort}
-use Rattle.batch_script.specs.Machine.{Item, reserve, show, batch}
+use Rattle.batch_script.specs.Machine.{PlainItem, reserve, show, batch}
 
 -- a line is its bytes, without the line feed at its end
 abbrev pub Line : Type 0
@@ -60,7 +60,7 @@ end_line Commit = codes "commit"
 end_line Abort = codes "abort"
 
 -- the lines that an item is printed as
-abbrev pub printed_lines : Item → List Line
+abbrev pub printed_lines : PlainItem → List Line
 printed_lines (reserve number) = line_of (codes "reserve") (number ∷ []) ∷ []
 printed_lines show = codes "show" ∷ []
 printed_lines (batch commands ending) = codes "begin" ∷ map command_line commands ++ end_line ending ∷ []
@@ -74,27 +74,27 @@ abbrev pub IsValidCommand : Command ℕ → Type 0
 IsValidCommand command = AllByRecursion IsWritable (numbers_of command)
 
 -- an item has only numbers that a script can write
-abbrev pub IsValidItem : Item → Type 0
+abbrev pub IsValidItem : PlainItem → Type 0
 IsValidItem (reserve number) = IsWritable number
 IsValidItem show = ⊤
 IsValidItem (batch commands ending) = AllByRecursion IsValidCommand commands
 
 -- the lines that items are printed as, one item after the other
-abbrev pub all_lines : List Item → List Line
+abbrev pub all_lines : List PlainItem → List Line
 all_lines = flat_map printed_lines
 
 -- the input is the script of these items
-pub record IsScriptOf (input : List ℕ) (items : List Item) : Type 0 where
+pub record IsScriptOf (input : List ℕ) (items : List PlainItem) : Type 0 where
   pub valid : AllByRecursion IsValidItem items
   pub lines : lines_of input ≡ all_lines items
 
 -- the input is a script
 abbrev pub IsScript : List ℕ → Type 0
-IsScript input = (items : List Item) × IsScriptOf input items
+IsScript input = (items : List PlainItem) × IsScriptOf input items
 
 -- these lines begin the lines of a script
 abbrev pub IsOpen : List Line → Type 0
-IsOpen lines = (items : List Item) × (rest : List Line) × AllByRecursion IsValidItem items × (lines ++ rest ≡ all_lines items)
+IsOpen lines = (items : List PlainItem) × (rest : List Line) × AllByRecursion IsValidItem items × (lines ++ rest ≡ all_lines items)
 
 -- The line of the fault of an input that is no script, counted from 1: with the lines before it a script may begin,
 -- and with it none. It is one past the last line where all lines together begin a script.

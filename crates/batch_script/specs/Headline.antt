@@ -4,14 +4,14 @@ use Rattle.wic_vec.specs.TryString.{TryString}
 use Rattle.batch_core.specs.State.{empty_state}
 use Rattle.batch_script.specs.Device.{Use, HasFaults}
 use Rattle.batch_script.specs.Grammar.{IsScriptOf}
-use Rattle.batch_script.specs.Machine.{Item, Reply, Run}
+use Rattle.batch_script.specs.Machine.{PlainItem, Reply, Run}
 use Rattle.batch_script.specs.Reply.{text_of, text_of_lines}
 use Rattle.batch_script.specs.declared.program.Status.{Status}
 use Rattle.batch_script.specs.declared.program.Status.TheVariants.{Done, Oom}
 use Rattle.batch_script.specs.declared.program.TheConstants.{INPUT_LIMIT}
 
 -- What the headline supposes of a call, of the input and of the items.
-pub record Premises (words : List TryString) (source sink : Use) (input held : List ℕ) (items : List Item) : Type 0 where
+pub record Premises (words : List TryString) (source sink : Use) (input held : List ℕ) (items : List PlainItem) : Type 0 where
   -- no words are given
   pub no_words : words ≡ []
   -- the source tells its bytes, which are the input
@@ -28,7 +28,7 @@ pub record Premises (words : List TryString) (source sink : Use) (input held : L
   pub script : IsScriptOf input items
 
 -- The first outcome: the text of one run, whole.
-pub record RunsWhole (status : Status) (written : Option (List ℕ)) (held : List ℕ) (items : List Item) : Type 0 where
+pub record RunsWhole (status : Status) (written : Option (List ℕ)) (held : List ℕ) (items : List PlainItem) : Type 0 where
   -- the status is 0
   pub done : status ≡ Done
   -- there are replies

@@ -5,24 +5,24 @@ use Rattle.std.specs.List.{AllByRecursion, list_any, join_with_byte}
 use Rattle.std.specs.Fmt.{decimal}
 use Rattle.batch_core.specs.declared.command.Command.{Command}
 use Rattle.batch_core.specs.declared.command.End.TheVariants.{Commit}
-use Rattle.batch_script.specs.declared.item.Item.{Item as SourceItem}
+use Rattle.batch_script.specs.declared.item.Item.{Item}
 use Rattle.batch_script.specs.declared.item.Item.TheVariants.{Reserve, Show, Batch}
 use Rattle.batch_script.specs.declared.line.Numbers.{Numbers}
 use Rattle.batch_script.specs.declared.line.Numbers.TheVariants.{Zero, One, Two}
 use Rattle.batch_script.specs.declared.parser.Reading.{Reading}
 use Rattle.batch_script.specs.declared.parser.Start.{Start}
 use Rattle.batch_script.specs.declared.parser.Start.TheVariants.{Reserve as StartsReserve, Show as StartsShow, Begin as StartsBatch}
-use Rattle.batch_script.specs.Machine.{Item, reserve, show, batch}
+use Rattle.batch_script.specs.Machine.{PlainItem, reserve, show, batch}
 use Rattle.batch_script.specs.Grammar.{Line, IsOpen, IsWritable, IsValidItem, IsValidCommand, all_lines, command_line, line_of, lines_of}
 
 -- an item of the parser as a plain item
-abbrev pub plain_item : SourceItem → Item
+abbrev pub plain_item : Item → PlainItem
 plain_item (Reserve number) = reserve number
 plain_item Show = show
 plain_item (Batch read) = batch read.commands.items read.end
 
 -- items of the parser as plain items
-abbrev pub plain_items : List SourceItem → List Item
+abbrev pub plain_items : List Item → List PlainItem
 plain_items = map plain_item
 
 -- whether a space stands in the text
@@ -51,13 +51,13 @@ abbrev pub HasNoParts : Line → Type 0
 HasNoParts line = (word numbers : List ℕ) → length numbers ≤ 2 → ¬ HasParts line word numbers
 
 -- the word of the first line of an item
-abbrev pub first_word : Item → List ℕ
+abbrev pub first_word : PlainItem → List ℕ
 first_word (reserve number) = codes "reserve"
 first_word show = codes "show"
 first_word (batch commands ending) = codes "begin"
 
 -- the numbers of that line
-abbrev pub first_numbers : Item → List ℕ
+abbrev pub first_numbers : PlainItem → List ℕ
 first_numbers (reserve number) = number ∷ []
 first_numbers show = []
 first_numbers (batch commands ending) = []
@@ -73,7 +73,7 @@ IsValidOpen None = ⊤
 IsValidOpen (Some commands) = AllByRecursion IsValidCommand commands
 
 -- these lines are those of the items, followed by those of the batch that has begun
-pub record AreRead (items : List Item) (begun : Option (List (Command ℕ))) (lines : List Line) : Type 0 where
+pub record AreRead (items : List PlainItem) (begun : Option (List (Command ℕ))) (lines : List Line) : Type 0 where
   pub valid_items : AllByRecursion IsValidItem items
   pub valid_open : IsValidOpen begun
   pub same : lines ≡ all_lines items ++ open_lines begun
@@ -84,7 +84,7 @@ begun_of true commands = Some commands
 begun_of false commands = None
 
 -- an item that begins so
-abbrev pub started : Start → Item
+abbrev pub started : Start → PlainItem
 started (StartsReserve number) = reserve number
 started StartsShow = show
 started StartsBatch = batch [] Commit

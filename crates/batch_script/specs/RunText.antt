@@ -3,16 +3,16 @@ use Rattle.std.specs.Prelude.{◌≡◌, ◌≤◌, ℕ, List, [], ◌∷◌, �
 use Rattle.batch_core.specs.State.{State, empty_state}
 use Rattle.batch_core.specs.Workspace.{Workspace}
 use Rattle.batch_script.specs.Grammar.{IsScriptOf}
-use Rattle.batch_script.specs.Machine.{Item, Reply, ItemStep, Run}
+use Rattle.batch_script.specs.Machine.{PlainItem, Reply, ItemStep, Run}
 use Rattle.batch_script.specs.Reply.{reply_lines, text_of, text_of_lines}
 
 -- the text is that of the replies of one run of the items from empty
-abbrev pub IsTextOfRun : List Item → List ℕ → Type 0
+abbrev pub IsTextOfRun : List PlainItem → List ℕ → Type 0
 IsTextOfRun items text = (replies : List Reply) × Run empty_state items replies × (text ≡ text_of replies)
 
 -- the input is a script, and the text is that of one run of its items from empty
 abbrev pub IsRunText : List ℕ → List ℕ → Type 0
-IsRunText input text = (items : List Item) × IsScriptOf input items × IsTextOfRun items text
+IsRunText input text = (items : List PlainItem) × IsScriptOf input items × IsTextOfRun items text
 
 -- the room is enough for the text of each run of the script, and for the line of want of memory
 pub record HoldsReplies (room : ℕ) (input : List ℕ) : Type 0 where
@@ -24,7 +24,7 @@ abbrev pub state_of : Workspace ℕ → State ℕ
 state_of workspace = record { contents = workspace.contents; room = workspace.room }
 
 -- the item took the workspace from old to new, with a reply that the machine may give and whose text was written
-pub record Answers (item : Item) (old new : Workspace ℕ) (before after : List ℕ) : Type 0 where
+pub record Answers (item : PlainItem) (old new : Workspace ℕ) (before after : List ℕ) : Type 0 where
   pub reply : Reply
   pub step : ItemStep (state_of old) item reply (state_of new)
   pub written : after ≡ before ++ text_of_lines (reply_lines reply)

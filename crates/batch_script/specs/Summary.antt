@@ -10,7 +10,7 @@ use Rattle.batch_core.specs.Batch.{committed, aborted, refused}
 use Rattle.batch_core.specs.Workspace.{Workspace}
 use Rattle.batch_script.specs.declared.summarizer.Counts.{Counts}
 use Rattle.batch_script.specs.Grammar.{Line}
-use Rattle.batch_script.specs.Machine.{Item, Reply, answered, plain_step, plain_replies, plain_end}
+use Rattle.batch_script.specs.Machine.{PlainItem, Reply, answered, plain_step, plain_replies, plain_end}
 use Rattle.batch_script.specs.Reply.{text_of_lines}
 use Rattle.batch_script.specs.RunText.{state_of}
 
@@ -34,7 +34,7 @@ abbrev pub number_line : List ℕ → ℕ → Line
 number_line word number = word ++ decimal number
 
 -- the seven lines of items: the batches that the plain run commits, aborts and refuses, and how much is held at its end
-abbrev pub summary_lines : List Item → List Line
+abbrev pub summary_lines : List PlainItem → List Line
 summary_lines items =
     let replies = plain_replies empty_state items in
     let contents = (plain_end empty_state items).contents in
@@ -47,7 +47,7 @@ summary_lines items =
     ∷ number_line (codes "next ") (next_id contents.order) ∷ []
 
 -- their text
-abbrev pub summary_text : List Item → List ℕ
+abbrev pub summary_text : List PlainItem → List ℕ
 summary_text items = text_of_lines (summary_lines items)
 
 -- the counts went up by one where the reply is such a one
@@ -57,12 +57,12 @@ pub record CountsReply (reply : Reply) (before after : Counts) : Type 0 where
   pub refused : after.refused ≡ before.refused + cond (is_refused reply) 1 0
 
 -- the plain step of the item took the workspace from old to new, and its reply was counted
-pub record CountsItem (item : Item) (old new : Workspace ℕ) (before after : Counts) : Type 0 where
+pub record CountsItem (item : PlainItem) (old new : Workspace ℕ) (before after : Counts) : Type 0 where
   pub state : state_of new ≡ (plain_step (state_of old) item).1
   pub counted : CountsReply (plain_step (state_of old) item).0 before after
 
 -- the counts are those of the replies of the plain run
-pub record AreCounts (items : List Item) (counts : Counts) : Type 0 where
+pub record AreCounts (items : List PlainItem) (counts : Counts) : Type 0 where
   pub committed : counts.committed ≡ count_by is_committed (plain_replies empty_state items)
   pub aborted : counts.aborted ≡ count_by is_aborted (plain_replies empty_state items)
   pub refused : counts.refused ≡ count_by is_refused (plain_replies empty_state items)

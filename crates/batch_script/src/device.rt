@@ -38,7 +38,8 @@ pub trait Source: Device {
         requires can_call { Self.can_call self.old }
         ensures within { IfOk result (λ count. count ≤ length buf.old) }
         ensures bytes { IfOk result
-            (λ count. (bytes : List ℕ) → left self.old ≡ Some bytes → TakesFirst bytes (left self.new) buf.new count) }
+            (λ count. (bytes : List ℕ) → left self.old ≡ Some bytes
+            → TakesFirst bytes (left self.new) buf.new count) }
         ensures failed_takes_nothing { OnErr result (left self.new ≡ left self.old) }
         ensures cause { HasCause (Self.faults self.old) (Self.faults self.new) result }
         ensures reaches { Self.reaches (moves result) self.old self.new }
@@ -57,7 +58,8 @@ pub trait Sink: Device {
         ensures within { IfOk result (λ count. count ≤ length piece.now) }
         ensures progress { IfOk result (λ count. 0 < length piece.now → 0 < count) }
         ensures bytes { IfOk result
-            (λ count. (held : List ℕ) → written self.old ≡ Some held → written self.new ≡ Some (held ++ take count piece.now)) }
+            (λ count. (held : List ℕ) → written self.old ≡ Some held → written self.new
+            ≡ Some (held ++ take count piece.now)) }
         ensures failed_takes_nothing { OnErr result (written self.new ≡ written self.old) }
         ensures cause { HasCause (Self.faults self.old) (Self.faults self.new) result }
         ensures reaches { Self.reaches (moves result) self.old self.new }

@@ -1,6 +1,6 @@
 //! Makes scripts from two numbers.
 ghost use Rattle.std.specs.Prelude.{◌≡◌, ◌/◌, ◌^◌, ◌≤◌, IfOk, OnOk};
-ghost use Rattle.batch_script.specs.Generated.{command_of, draw, end_of, batch_of, next_number, number_after, generated};
+ghost use Rattle.batch_script.specs.Generated.{drawn_command, draw, end_of, batch_of, next_number, number_after, generated};
 ghost use Rattle.batch_script.specs.declared.words.TheConstants.{MOST_BATCHES};
 ghost use Rattle.batch_script.specs.Reading.{plain_item, plain_items};
 
@@ -13,14 +13,14 @@ use wic_vec::TryVec;
 /// How many commands a batch has.
 const COMMANDS: usize = 8;
 
-/// How many numbers below 2^31 are drawn, one after the other.
+/// The number that draws go on from. Each draw gives a number below 2^31.
 #[derive(Drop)]
 struct Generator {
     number: u64,
 }
 
 impl Generator {
-    /// The next number.
+    /// Draws the next number.
     fn draw(&mut self) -> u64
         ensures drawn { result ≡ self.new.number / 2 ^ 33 }
         ensures next { self.new.number ≡ next_number self.old.number }
@@ -32,9 +32,9 @@ impl Generator {
         self.number >> 33
     }
 
-    /// A command of the next three.
+    /// The command of the next three draws.
     fn command(&mut self) -> Command<u64>
-        ensures command { result ≡ command_of self.old.number }
+        ensures command { result ≡ drawn_command self.old.number }
         ensures next { self.new.number ≡ number_after 3 self.old.number }
     {
         let kind = self.draw() % 16;
@@ -65,7 +65,8 @@ impl Generator {
 
     /// A batch of eight commands, and its end.
     fn batch(&mut self, alloc: Global) -> Result<Batch<u64>, OutOfMemory>
-        ensures batch { IfOk result (λ made. plain_item (Item.Batch made) ≡ batch_of self.old.number) }
+        ensures batch { IfOk result (λ made. plain_item (Item.Batch made)
+            ≡ batch_of self.old.number) }
         ensures next { OnOk result (self.new.number ≡ number_after 25 self.old.number) }
     {
         let mut commands = TryVec::with_capacity(alloc, COMMANDS)?;
@@ -77,7 +78,7 @@ impl Generator {
     }
 }
 
-/// The script that is made of `seed` and `n`: room for 4096, and then `n` batches of eight commands each. Own.
+/// The script that is made of `seed` and `n`: room for 4096, and then `n` batches of eight commands each.
 ///
 /// Equal numbers make equal scripts. `OutOfMemory` says that there was no memory for the items; nothing is kept then.
 pub fn generate(alloc: Global, seed: u64, n: u64) -> Result<Script, OutOfMemory>

@@ -2,10 +2,10 @@
 use batch_core::Batch;
 use wic_vec::TryVec;
 
-/// One item of a script. Own.
+/// One item of a script.
 #[derive(Drop)]
 pub enum Item {
-    /// Makes the room so large.
+    /// Makes the room at least this large.
     Reserve(u64),
     /// Writes list, set, table and the next id.
     Show,
@@ -13,7 +13,7 @@ pub enum Item {
     Batch(Batch<u64>),
 }
 
-/// A script that was read whole. Own.
+/// A script that was read whole.
 #[derive(Drop)]
 pub struct Script {
     /// The items, in order.

@@ -7,7 +7,7 @@ use wic_base::OutOfMemory;
 use wic_error::Kind;
 use wic_vec::TryString;
 
-/// What was refused, and why: the links of the error that a refusal is the line of. Own.
+/// What was refused, and why: the links of the error whose line a refusal is.
 #[derive(Clone, Copy, Debug, PartialEq, Eq)]
 pub enum BatchKind {
     /// The list is empty.
@@ -27,7 +27,7 @@ pub enum BatchKind {
 }
 
 impl BatchKind {
-    /// The kind of a cause, or `None` for want of memory.
+    /// The kind of a cause, or `None` for out of memory.
     pub(crate) fn of_cause(cause: Cause) -> Option<BatchKind>
         ensures kind { result ≡ kind_of_cause cause }
     {

@@ -19,8 +19,10 @@ pub(crate) enum Numbers {
 #[inline(always)]
 pub(crate) fn read_line(input: &[u8]) -> Option<(&[u8], Numbers, &[u8])>
     requires { 0 < length input.now }
-    ensures parts { IfSome result (λ read. HasParts (line_of read.0.now (listed read.1)) read.0.now (listed read.1)) }
-    ensures lines { IfSome result (λ read. lines_of input.now ≡ line_of read.0.now (listed read.1) ∷ lines_of read.2.now) }
+    ensures parts { IfSome result (λ read. HasParts (line_of read.0.now (listed read.1)) read.0.now
+        (listed read.1)) }
+    ensures lines { IfSome result (λ read. lines_of input.now
+        ≡ line_of read.0.now (listed read.1) ∷ lines_of read.2.now) }
     ensures shorter { IfSome result (λ read. length read.2.now < length input.now) }
     ensures none { IfNone result (HasFault input.now) }
 {
@@ -37,7 +39,8 @@ pub(crate) fn read_line(input: &[u8]) -> Option<(&[u8], Numbers, &[u8])>
 /// One number or two with one space between them, up to the end of the line, and what follows the line.
 #[inline(always)]
 fn read_numbers(text: &[u8]) -> Option<(Numbers, &[u8])>
-    ensures some { IfSome result (λ read. (rest : List ℕ) × AreNumbersBefore text.now (listed read.0) rest read.1.now) }
+    ensures some { IfSome result (λ read. (rest : List ℕ)
+        × AreNumbersBefore text.now (listed read.0) rest read.1.now) }
     ensures none { IfNone result ((numbers rest later : List ℕ) → length numbers ≤ 2
         → ¬ AreNumbersBefore text.now numbers rest later) }
 {
@@ -92,7 +95,8 @@ fn split_word(text: &[u8]) -> (&[u8], &[u8])
 #[inline(always)]
 fn is_in_word(text: &[u8], place: usize) -> bool
     ensures { IsTrue result
-        ↔ ((place < length text.now) × (slice_index text.now place ≢ 32) × (slice_index text.now place ≢ 10)) }
+        ↔ ((place < length text.now) × (slice_index text.now place ≢ 32)
+        × (slice_index text.now place ≢ 10)) }
 {
     place < text.len() && text[place] != b' ' && text[place] != b'\n'
 }

@@ -1,4 +1,4 @@
-//! Sources and sinks in memory, which fail at the calls that they are told.
+//! Sources and sinks in memory, which fail at the calls that they are given.
 ghost use Rattle.std.specs.Prelude.{◌≡◌, ◌+◌, ◌-◌, ◌^◌, ◌<◌, ◌≤◌, ◌↔◌, ◌⊎◌, ◌++◌, ℕ, List, [], length, take, drop, min};
 ghost use Rattle.std.specs.Prelude.{⊤, Contains, IsTrue, IsOk, IsErr, IfOk, OnOk, OnErr, None, Some, Ok};
 ghost use Rattle.batch_script.specs.Device.{HasCause, TakesFirst, moves};
@@ -33,16 +33,17 @@ impl FaultPlan {
         }
     }
 
-    // Counts a call, and answers whether it is one that is to fail.
+    // Counts a call, and returns whether it is one that is to fail.
     fn next_call_fails(&mut self) -> bool
-        ensures listed { IsTrue result ↔ Contains self.old.failing.items (next_call self.old.calls) }
+        ensures listed { IsTrue result
+            ↔ Contains self.old.failing.items (next_call self.old.calls) }
         ensures counted { self.new ≡ record self.old { calls = next_call self.old.calls } }
     {
         self.calls = self.calls.saturating_add(1);
         self.failing.as_slice().contains(&self.calls)
     }
 
-    // Counts a fault, and answers it.
+    // Counts a fault, and returns it.
     fn fail(&mut self) -> Failed
         ensures counted { self.new ≡ record self.old { faults = next_call self.old.faults } }
         ensures never_falls { self.old.faults ≤ self.new.faults }
@@ -52,7 +53,7 @@ impl FaultPlan {
     }
 }
 
-/// Input that lies in memory and is read without a fault. Own.
+/// Input that lies in memory and is read without a fault.
 ///
 /// A contract sees the bytes that are left.
 #[derive(Drop)]
@@ -112,7 +113,8 @@ impl Source for PlainSource {
         ensures never_fails { IsOk result }
         ensures within { IfOk result (λ count. count ≤ length buf.old) }
         ensures bytes { IfOk result
-            (λ count. (bytes : List ℕ) → Some self.old ≡ Some bytes → TakesFirst bytes (Some self.new) buf.new count) }
+            (λ count. (bytes : List ℕ) → Some self.old ≡ Some bytes
+            → TakesFirst bytes (Some self.new) buf.new count) }
         ensures failed_takes_nothing { OnErr result (Some self.new ≡ Some self.old) }
         ensures cause { HasCause 0 0 result }
         ensures reaches { Gave (moves result) self.old self.new }
@@ -122,7 +124,7 @@ impl Source for PlainSource {
     }
 }
 
-/// Input that lies in memory, is given in pieces, and fails at the calls that it is told. Own.
+/// Input that lies in memory, is given in pieces, and fails at the calls that it is given.
 #[derive(Drop)]
 pub struct MemSource {
     source: PlainSource,
@@ -149,7 +151,7 @@ impl Model for MemSource {
 
 impl MemSource {
     /// A source that gives these bytes, at most `piece` in a call. Calls are numbered from 1, and one fails exactly
-    /// where `failing` has its number; the number stands still at 18446744073709551615. It takes no memory.
+    /// if `failing` has its number; the number stands still at 18446744073709551615. It takes no memory.
     pub fn new(bytes: TryVec<u8>, piece: usize, failing: TryVec<u64>) -> MemSource
         requires { 1 ≤ piece }
         ensures left { result.left ≡ bytes.items }
@@ -183,13 +185,15 @@ impl Source for MemSource {
 
     fn read(&mut self, buf: &mut [u8]) -> Result<usize, Failed>
         ensures listed { IsErr result ↔ Contains self.old.failing (next_call self.old.calls) }
-        ensures count { IfOk result (λ count. count ≡ min (min self.old.piece (length buf.old)) (length self.old.left)) }
+        ensures count { IfOk result (λ count. count
+            ≡ min (min self.old.piece (length buf.old)) (length self.old.left)) }
         ensures counted { self.new.calls ≡ next_call self.old.calls }
         ensures fault_counted { OnErr result (self.new.faults ≡ next_call self.old.faults) }
         ensures kept { (self.new.piece ≡ self.old.piece) × (self.new.failing ≡ self.old.failing) }
         ensures within { IfOk result (λ count. count ≤ length buf.old) }
         ensures bytes { IfOk result
-            (λ count. (bytes : List ℕ) → Some self.old.left ≡ Some bytes → TakesFirst bytes (Some self.new.left) buf.new count) }
+            (λ count. (bytes : List ℕ) → Some self.old.left ≡ Some bytes
+            → TakesFirst bytes (Some self.new.left) buf.new count) }
         ensures failed_takes_nothing { OnErr result (Some self.new.left ≡ Some self.old.left) }
         ensures cause { HasCause self.old.faults self.new.faults result }
         ensures reaches { SourceReaches (moves result) self.old self.new }
@@ -201,8 +205,8 @@ impl Source for MemSource {
     }
 }
 
-/// Output that is kept in memory, is taken in pieces, and fails at the calls that it is told and where its room is
-/// used up. Own.
+/// Output that is kept in memory, is taken in pieces, and fails at the calls that it is given and if its room is
+/// used up.
 #[derive(Drop)]
 pub struct MemSink {
     bytes: TryVec<u8>,
@@ -231,7 +235,7 @@ impl Model for MemSink {
 
 impl MemSink {
     /// A sink that holds up to `room` bytes and takes at most `piece` in a call. Calls are numbered from 1, and one
-    /// fails where `failing` has its number; the number stands still at 18446744073709551615. All its memory is
+    /// fails if `failing` has its number; the number stands still at 18446744073709551615. All its memory is
     /// taken here.
     pub fn new(
         alloc: Global,
@@ -288,16 +292,20 @@ impl Sink for MemSink {
 
     fn write(&mut self, piece: &[u8]) -> Result<usize, Failed>
         ensures fails { IsErr result
-            ↔ (Contains self.old.failing (next_call self.old.calls) ⊎ ((0 < length piece.now) × (length self.old.bytes ≡ self.old.room))) }
+            ↔ (Contains self.old.failing (next_call self.old.calls)
+            ⊎ ((0 < length piece.now) × (length self.old.bytes ≡ self.old.room))) }
         ensures count { IfOk result
-            (λ count. count ≡ min (min self.old.piece (length piece.now)) (self.old.room - length self.old.bytes)) }
+            (λ count. count ≡ min (min self.old.piece (length piece.now))
+            (self.old.room - length self.old.bytes)) }
         ensures counted { self.new.calls ≡ next_call self.old.calls }
         ensures fault_counted { OnErr result (self.new.faults ≡ next_call self.old.faults) }
-        ensures kept { (self.new.room ≡ self.old.room) × (self.new.piece ≡ self.old.piece) × (self.new.failing ≡ self.old.failing) }
+        ensures kept { (self.new.room ≡ self.old.room) × (self.new.piece ≡ self.old.piece)
+            × (self.new.failing ≡ self.old.failing) }
         ensures within { IfOk result (λ count. count ≤ length piece.now) }
         ensures progress { IfOk result (λ count. 0 < length piece.now → 0 < count) }
         ensures bytes { IfOk result
-            (λ count. (held : List ℕ) → Some self.old.bytes ≡ Some held → Some self.new.bytes ≡ Some (held ++ take count piece.now)) }
+            (λ count. (held : List ℕ) → Some self.old.bytes ≡ Some held → Some self.new.bytes
+            ≡ Some (held ++ take count piece.now)) }
         ensures failed_takes_nothing { OnErr result (Some self.new.bytes ≡ Some self.old.bytes) }
         ensures cause { HasCause self.old.faults self.new.faults result }
         ensures reaches { SinkReaches (moves result) self.old self.new }
@@ -315,7 +323,7 @@ impl Sink for MemSink {
     }
 }
 
-/// Output of which only the number of bytes is kept. It takes every byte and never fails, and doesn't tell its bytes. Own.
+/// Output of which only the number of bytes is kept. It takes every byte and never fails, and doesn't tell its bytes.
 ///
 /// A contract sees the number.
 #[derive(Drop)]
@@ -334,14 +342,14 @@ impl Model for CountSink {
 }
 
 impl CountSink {
-    /// A sink that has taken no byte yet. Own.
+    /// A sink that has taken no byte yet.
     pub fn new() -> CountSink
         ensures none { result ≡ 0 }
     {
         CountSink { total: 0 }
     }
 
-    /// How many bytes it took; the number stands still at 18446744073709551615. Own.
+    /// How many bytes it took; the number stands still at 18446744073709551615.
     pub fn total(&self) -> u64
         ensures total { result ≡ self.now }
     {

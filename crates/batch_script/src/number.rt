@@ -8,9 +8,11 @@ ghost use Rattle.batch_script.specs.Reading.{BeginsNumber};
 /// The number whose digits stand at the front, with no leading zero, and what follows its last digit.
 #[inline(always)]
 pub(crate) fn read_number(text: &[u8]) -> Option<(u64, &[u8])>
-    ensures some { IfSome result (λ parts. (parts.0 < 2 ^ 64) × (text.now ≡ decimal parts.0 ++ parts.1.now)
+    ensures some { IfSome result (λ parts. (parts.0 < 2 ^ 64)
+        × (text.now ≡ decimal parts.0 ++ parts.1.now)
         × HasNoDigitFirst parts.1.now) }
-    ensures none { IfNone result ((number : ℕ) (rest : List ℕ) → number < 2 ^ 64 → HasNoDigitFirst rest
+    ensures none { IfNone result ((number : ℕ) (rest : List ℕ) → number < 2 ^ 64
+        → HasNoDigitFirst rest
         → text.now ≢ decimal number ++ rest) }
 {
     let mut number = 0u64;
@@ -49,9 +51,11 @@ fn with_digit(number: u64, digit: u64) -> Option<u64>
 /// The value of the digit at this place, if one stands there.
 #[inline(always)]
 fn digit_at(text: &[u8], place: usize) -> Option<u64>
-    ensures some { IfSome result (λ digit. (place < length text.now) × IsInRange 48 57 (slice_index text.now place)
+    ensures some { IfSome result (λ digit. (place < length text.now)
+        × IsInRange 48 57 (slice_index text.now place)
         × (slice_index text.now place ≡ 48 + digit)) }
-    ensures none { IfNone result (place < length text.now → ¬ IsInRange 48 57 (slice_index text.now place)) }
+    ensures none { IfNone result (place < length text.now
+        → ¬ IsInRange 48 57 (slice_index text.now place)) }
 {
     if place < text.len() && text[place].is_ascii_digit() {
         return Some((text[place] - b'0') as u64);

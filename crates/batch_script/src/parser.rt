@@ -2,7 +2,7 @@
 ghost use Rattle.std.specs.Prelude.{◌≡◌, ◌≢◌, ◌<◌, ◌∷◌, ◌++◌, ℕ, List, [], length, IfSome, IfNone, IfOk, IfErr, OnOk, MatchOption, Err};
 ghost use Rattle.batch_core.specs.declared.command.Command.{Command};
 ghost use Rattle.batch_core.specs.declared.command.End.{End};
-ghost use Rattle.batch_script.specs.Machine.{Item as PlainItem};
+ghost use Rattle.batch_script.specs.Machine.{PlainItem};
 ghost use Rattle.batch_script.specs.Grammar.{Line, IsOpen, IsScriptOf, word_of, numbers_of, end_line, lines_of};
 ghost use Rattle.batch_script.specs.Reading.{first_word, first_numbers, listed, plain_items, started};
 ghost use Rattle.batch_script.specs.Refusal.{IsJustified};
@@ -18,8 +18,10 @@ use wic_vec::TryVec;
 
 /// The command of this word and these numbers.
 fn command_of(word: &[u8], numbers: Numbers) -> Option<Command<u64>>
-    ensures some { IfSome result (λ command. (word.now ≡ word_of command) × (listed numbers ≡ numbers_of command)) }
-    ensures none { IfNone result ((command : Command ℕ) → numbers_of command ≡ listed numbers → word_of command ≢ word.now) }
+    ensures some { IfSome result (λ command. (word.now ≡ word_of command)
+        × (listed numbers ≡ numbers_of command)) }
+    ensures none { IfNone result ((command : Command ℕ) → numbers_of command ≡ listed numbers
+        → word_of command ≢ word.now) }
 {
     match numbers {
         Numbers::Zero => match word {
@@ -46,7 +48,8 @@ fn command_of(word: &[u8], numbers: Numbers) -> Option<Command<u64>>
 /// The end of a batch that is this word, with no numbers.
 fn end_of(word: &[u8], numbers: Numbers) -> Option<End>
     ensures some { IfSome result (λ ending. (word.now ≡ end_line ending) × (listed numbers ≡ [])) }
-    ensures none { IfNone result ((ending : End) → listed numbers ≡ [] → end_line ending ≢ word.now) }
+    ensures none { IfNone result ((ending : End) → listed numbers ≡ []
+        → end_line ending ≢ word.now) }
 {
     match numbers {
         Numbers::Zero => match word {
@@ -68,8 +71,10 @@ pub(crate) enum Start {
 
 /// What this word and these numbers start outside a batch.
 fn start_of(word: &[u8], numbers: Numbers) -> Option<Start>
-    ensures some { IfSome result (λ start. (word.now ≡ first_word (started start)) × (listed numbers ≡ first_numbers (started start))) }
-    ensures none { IfNone result ((item : PlainItem) → first_numbers item ≡ listed numbers → first_word item ≢ word.now) }
+    ensures some { IfSome result (λ start. (word.now ≡ first_word (started start))
+        × (listed numbers ≡ first_numbers (started start))) }
+    ensures none { IfNone result ((item : PlainItem) → first_numbers item ≡ listed numbers
+        → first_word item ≢ word.now) }
 {
     match numbers {
         Numbers::Zero => match word {
@@ -125,7 +130,11 @@ impl Reading {
     }
 
     /// Takes the first line of an input, and returns what follows it.
-    fn take_first_line<'a>(&mut self, alloc: Global, input: &'a [u8]) -> Result<&'a [u8], LineRefusal>
+    fn take_first_line<'a>(
+        &mut self,
+        alloc: Global,
+        input: &'a [u8],
+    ) -> Result<&'a [u8], LineRefusal>
         requires some { 0 < length input.now }
         ensures ok { IfOk result (λ later. TakesFirstLine self.old self.new input.now later.now) }
         ensures shorter { IfOk result (λ later. length later.now < length input.now) }
@@ -141,9 +150,15 @@ impl Reading {
     }
 
     /// Goes on by a line of this word and these numbers.
-    fn take_parts(&mut self, alloc: Global, word: &[u8], numbers: Numbers) -> Result<(), LineRefusal>
+    fn take_parts(
+        &mut self,
+        alloc: Global,
+        word: &[u8],
+        numbers: Numbers,
+    ) -> Result<(), LineRefusal>
         ensures ok { OnOk result (TakesLine HasRead self.old self.new word.now (listed numbers)) }
-        ensures syntax { result ≡ Err LineRefusal.Syntax → RefusesLine HasRead self.old word.now (listed numbers) }
+        ensures syntax { result ≡ Err LineRefusal.Syntax
+            → RefusesLine HasRead self.old word.now (listed numbers) }
     {
         if self.has_begun {
             self.take_in_batch(alloc, word, numbers)
@@ -152,7 +167,7 @@ impl Reading {
         }
     }
 
-    /// Goes on by this word and these numbers where no batch has begun.
+    /// Goes on by a line of this word and these numbers if no batch has begun.
     fn take_outside(
         &mut self,
         alloc: Global,
@@ -160,7 +175,8 @@ impl Reading {
         numbers: Numbers,
     ) -> Result<(), LineRefusal>
         ensures ok { OnOk result (TakesLine IsOutside self.old self.new word.now (listed numbers)) }
-        ensures syntax { result ≡ Err LineRefusal.Syntax → RefusesLine IsOutside self.old word.now (listed numbers) }
+        ensures syntax { result ≡ Err LineRefusal.Syntax
+            → RefusesLine IsOutside self.old word.now (listed numbers) }
     {
         match start_of(word, numbers) {
             Some(Start::Reserve(number)) => self.items.push(Item::Reserve(number))?,
@@ -174,7 +190,7 @@ impl Reading {
         Ok(())
     }
 
-    /// Goes on by this word and these numbers in a batch that has begun.
+    /// Goes on by a line of this word and these numbers in a batch that has begun.
     fn take_in_batch(
         &mut self,
         alloc: Global,
@@ -182,7 +198,8 @@ impl Reading {
         numbers: Numbers,
     ) -> Result<(), LineRefusal>
         ensures ok { OnOk result (TakesLine IsInside self.old self.new word.now (listed numbers)) }
-        ensures syntax { result ≡ Err LineRefusal.Syntax → RefusesLine IsInside self.old word.now (listed numbers) }
+        ensures syntax { result ≡ Err LineRefusal.Syntax
+            → RefusesLine IsInside self.old word.now (listed numbers) }
     {
         if let Some(command) = command_of(word, numbers) {
             self.commands.push(command)?;
@@ -199,10 +216,10 @@ impl Reading {
     }
 }
 
-/// Reads a script whole: its items. Own.
+/// Reads a whole script, and returns its items.
 ///
-/// `Syntax` comes exactly where the input is no script, at the line of its fault; nothing is lost but what was read. `Oom` says
-/// that there was no memory for the items.
+/// `Syntax` comes exactly if the input is no script, with the line of its fault. `Oom` says that there was no memory for the items.
+/// Each byte is read once.
 pub fn parse(alloc: Global, input: &[u8]) -> Result<Script, RunError>
     ensures script { IfOk result (λ script. IsScriptOf input.now (plain_items script.items.items)) }
     ensures refusal { IfErr result (IsJustified input.now) }

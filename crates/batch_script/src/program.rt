@@ -6,7 +6,7 @@ ghost use Rattle.batch_script.specs.Device.{AtMost, HasFaults, Keeps, Use, use_o
 ghost use Rattle.batch_script.specs.Grammar.{IsFaultLine, IsScript};
 ghost use Rattle.batch_script.specs.Generated.{generated};
 ghost use Rattle.batch_script.specs.Headline.{Premises, RunsWhole, WantsMemory};
-ghost use Rattle.batch_script.specs.Machine.{Item};
+ghost use Rattle.batch_script.specs.Machine.{PlainItem};
 ghost use Rattle.batch_script.specs.Program.{SummarizesRun, batch_meaning};
 ghost use Rattle.batch_script.specs.Status.{CallsFor, Concludes, EndsAmong, Finishes, WritesFront, WritesWhole};
 ghost use Rattle.batch_script.specs.Summary.{summary_text};
@@ -111,7 +111,8 @@ enum ReadEnd {
 /// Reads to the end of the input, in pieces.
 fn read_input<S: Source>(alloc: Global, source: &mut S) -> Result<TryVec<u8>, ReadEnd>
     requires can_call { S.can_call source.old }
-    ensures bytes { IfOk result (λ bytes. ReadsAll (use_of S.left S.faults source.old source.new) bytes.items) }
+    ensures bytes { IfOk result (λ bytes. ReadsAll
+        (use_of S.left S.faults source.old source.new) bytes.items) }
     ensures end { IfErr result (IsReadEnd (use_of S.left S.faults source.old source.new)) }
     ensures reads { AtMost (INPUT_LIMIT + 1) S.reaches source.old source.new }
 {
@@ -132,7 +133,8 @@ fn take_piece(bytes: &mut TryVec<u8>, piece: &[u8]) -> Result<(), ReadEnd>
     ensures taken { OnOk result (bytes.new.items ≡ bytes.old.items ++ piece.now) }
     ensures fits { OnOk result (length bytes.new.items ≤ INPUT_LIMIT) }
     ensures no_fault { result ≢ Err ReadEnd.Fault }
-    ensures too_long { result ≡ Err ReadEnd.TooLong → INPUT_LIMIT < length bytes.old.items + length piece.now }
+    ensures too_long { result ≡ Err ReadEnd.TooLong
+        → INPUT_LIMIT < length bytes.old.items + length piece.now }
 {
     if piece.len() > INPUT_LIMIT - bytes.len() {
         return Err(ReadEnd::TooLong);
@@ -171,7 +173,8 @@ fn finish<K: Sink>(text: &str, status: Status, sink: &mut K) -> Status
 /// What is to be written for this input.
 fn answer_to_input(alloc: Global, input: &[u8]) -> Answer
     ensures called_for { (source : Use) → ReadsAll source input.now
-        → CallsFor batch_meaning [] source (status_of result) (text_of_answer batch_meaning.usage result) }
+        → CallsFor batch_meaning [] source (status_of result)
+        (text_of_answer batch_meaning.usage result) }
 {
     match run(alloc, input) {
         Ok(text) => Answer::Done(text),
@@ -182,8 +185,10 @@ fn answer_to_input(alloc: Global, input: &[u8]) -> Answer
 
 /// What is to be written where the input stops being a script at this line.
 fn answer_to_fault(alloc: Global, line: u64) -> Answer
-    ensures called_for { (input : List ℕ) (source : Use) → ¬ IsScript input → IsFaultLine input line → ReadsAll source input
-        → CallsFor batch_meaning [] source (status_of result) (text_of_answer batch_meaning.usage result) }
+    ensures called_for { (input : List ℕ) (source : Use) → ¬ IsScript input
+        → IsFaultLine input line → ReadsAll source input
+        → CallsFor batch_meaning [] source (status_of result)
+        (text_of_answer batch_meaning.usage result) }
 {
     match format!(in alloc; "error: syntax at line {line}\n") {
         Ok(text) => Answer::Syntax(TryString::from_string(text)),
@@ -217,8 +222,10 @@ fn summary_of_run(alloc: Global, seed: u64, count: u64) -> Result<TryString, Out
 /// What is to be written for the script that is generated from these numbers.
 fn answer_to_run(alloc: Global, seed: u64, count: u64) -> Answer
     requires few { count ≤ MOST_BATCHES }
-    ensures called_for { (words : List Word) (source : Use) → AsksForRun words seed count → Keeps source
-        → CallsFor batch_meaning words source (status_of result) (text_of_answer batch_meaning.usage result) }
+    ensures called_for { (words : List Word) (source : Use) → AsksForRun words seed count
+        → Keeps source
+        → CallsFor batch_meaning words source (status_of result)
+        (text_of_answer batch_meaning.usage result) }
 {
     match summary_of_run(alloc, seed, count) {
         Ok(text) => Answer::Done(text),
@@ -247,22 +254,28 @@ pub fn top<S: Source, K: Sink>(
     requires can_write { K.can_call sink.old }
 
     // For every script the text of one run of its items is written whole, or memory ran out.
-    ensures headline { (input held : List ℕ) (items : List Item)
-        → Premises words.now.items (use_of S.left S.faults source.old source.new) (use_of K.written K.faults sink.old sink.new)
+    ensures headline { (input held : List ℕ) (items : List PlainItem)
+        → Premises words.now.items (use_of S.left S.faults source.old source.new)
+        (use_of K.written K.faults sink.old sink.new)
         input held items
-        → RunsWhole result (K.written sink.new) held items ⊎ WantsMemory result (K.written sink.new) held }
+        → RunsWhole result (K.written sink.new) held items
+        ⊎ WantsMemory result (K.written sink.new) held }
 
     // For two numbers the summary of the script that they generate is written whole, or memory ran out.
     ensures summary { (seed count : ℕ) (held : List ℕ) → AsksForRun words.now.items seed count
         → K.written sink.old ≡ Some held → ¬ HasFaults (use_of K.written K.faults sink.old sink.new)
-        → SummarizesRun result (K.written sink.new) held seed count ⊎ WantsMemory result (K.written sink.new) held }
+        → SummarizesRun result (K.written sink.new) held seed count
+        ⊎ WantsMemory result (K.written sink.new) held }
 
     // How it comes to each status, what is then written, and by how many writes.
-    ensures concludes { Concludes batch_meaning words.now.items (use_of S.left S.faults source.old source.new)
-        (use_of K.written K.faults sink.old sink.new) (λ most. AtMost most K.reaches sink.old sink.new) result }
+    ensures concludes { Concludes batch_meaning words.now.items
+        (use_of S.left S.faults source.old source.new)
+        (use_of K.written K.faults sink.old sink.new)
+        (λ most. AtMost most K.reaches sink.old sink.new) result }
 
     // Which statuses there can be, whatever the sink does, and when a fault comes.
-    ensures ends { EndsAmong batch_meaning words.now.items (use_of S.left S.faults source.old source.new)
+    ensures ends { EndsAmong batch_meaning words.now.items
+        (use_of S.left S.faults source.old source.new)
         (use_of K.written K.faults sink.old sink.new) result }
 
     // How often is read: at most this often, and not at all if there are words.

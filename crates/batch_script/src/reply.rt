@@ -1,12 +1,14 @@
 //! Writes replies.
-ghost use Rattle.std.specs.Prelude.{◌≡◌, ◌∷◌, [], ◌++◌, ℕ, codes, OnOk};
+ghost use Rattle.std.specs.Prelude.{◌≡◌, ◌≤◌, ◌∷◌, [], ◌++◌, ℕ, codes, length, OnOk};
 ghost use Rattle.std.specs.List.{flat_map};
 ghost use Rattle.std.specs.Fmt.{decimal};
 ghost use Rattle.std.specs.FinMap.{entries};
 ghost use Rattle.wic_bitset.specs.Rising.{rising};
+ghost use Rattle.wic_vec.specs.declared.string.decimal.TheConstants.{LONGEST_WORD};
+ghost use Rattle.batch_core.specs.Batch.{aborted, committed};
 ghost use Rattle.batch_script.specs.Kind.{kind_text};
-ghost use Rattle.batch_script.specs.Machine.{shown_of};
-ghost use Rattle.batch_script.specs.Reply.{record_lines, refusal_line, reply_lines, listing, text_of_lines, pair_text};
+ghost use Rattle.batch_script.specs.Machine.{no_memory, reserved, shown_of};
+ghost use Rattle.batch_script.specs.Reply.{outcome_lines, record_lines, refusal_line, reply_lines, listing, text_of_lines, pair_text};
 
 use crate::kind::BatchKind;
 use batch_core::{Record, Workspace};
@@ -17,9 +19,46 @@ use wic_error::{ChainItem, Error};
 use wic_slab::Slab;
 use wic_vec::TryString;
 
+/// Writes the reply to a reservation that was accepted.
+pub(crate) fn push_reserved(text: &mut TryString) -> Result<(), OutOfMemory>
+    ensures lines { OnOk result (text.new.bytes
+        ≡ text.old.bytes ++ text_of_lines (reply_lines reserved)) }
+{
+    text.push_str("reserved\n")
+}
+
+/// Writes the reply to what was refused for memory.
+pub(crate) fn push_no_memory(text: &mut TryString) -> Result<(), OutOfMemory>
+    ensures lines { OnOk result (text.new.bytes
+        ≡ text.old.bytes ++ text_of_lines (reply_lines no_memory)) }
+{
+    text.push_str("refused: out of memory\n")
+}
+
+/// Writes the reply to a batch that was aborted.
+pub(crate) fn push_aborted(text: &mut TryString) -> Result<(), OutOfMemory>
+    ensures lines { OnOk result (text.new.bytes
+        ≡ text.old.bytes ++ text_of_lines (outcome_lines aborted)) }
+{
+    text.push_str("aborted\n")
+}
+
+/// Writes the reply to a batch that was committed: the lines of its records, and one more.
+pub(crate) fn push_committed(
+    text: &mut TryString,
+    records: &[Record<u64>],
+) -> Result<(), OutOfMemory>
+    ensures lines { OnOk result
+        (text.new.bytes ≡ text.old.bytes ++ text_of_lines (outcome_lines (committed records.now))) }
+{
+    push_records(text, records)?;
+    text.push_str("committed\n")
+}
+
 /// Writes the lines of records: the replies of the commands that left them.
-pub(crate) fn push_records(text: &mut TryString, records: &[Record<u64>]) -> Result<(), OutOfMemory>
-    ensures lines { OnOk result (text.new.bytes ≡ text.old.bytes ++ text_of_lines (flat_map record_lines records.now)) }
+fn push_records(text: &mut TryString, records: &[Record<u64>]) -> Result<(), OutOfMemory>
+    ensures lines { OnOk result (text.new.bytes
+        ≡ text.old.bytes ++ text_of_lines (flat_map record_lines records.now)) }
 {
     for entry in records {
         push_record(text, entry)?;
@@ -29,7 +68,8 @@ pub(crate) fn push_records(text: &mut TryString, records: &[Record<u64>]) -> Res
 
 /// Writes the line of a record, if it has one.
 fn push_record(text: &mut TryString, entry: &Record<u64>) -> Result<(), OutOfMemory>
-    ensures lines { OnOk result (text.new.bytes ≡ text.old.bytes ++ text_of_lines (record_lines entry.now)) }
+    ensures lines { OnOk result (text.new.bytes
+        ≡ text.old.bytes ++ text_of_lines (record_lines entry.now)) }
 {
     match entry {
         Record::Pushed => text.push_str("ok\n"),
@@ -50,13 +90,13 @@ fn push_record(text: &mut TryString, entry: &Record<u64>) -> Result<(), OutOfMem
     }
 }
 
-/// Writes a line of a word and a number.
-pub(crate) fn push_number(text: &mut TryString, word: &str, number: u64) -> Result<(), OutOfMemory>
-    ensures line { OnOk result (text.new.bytes ≡ text.old.bytes ++ text_of_lines ((word.now ++ decimal number) ∷ [])) }
+/// Writes a line of a short word and a number, as one push.
+fn push_number(text: &mut TryString, word: &str, number: u64) -> Result<(), OutOfMemory>
+    requires short { length word.now ≤ LONGEST_WORD }
+    ensures line { OnOk result (text.new.bytes
+        ≡ text.old.bytes ++ text_of_lines ((word.now ++ decimal number) ∷ [])) }
 {
-    text.push_str(word)?;
-    text.push_decimal(number)?;
-    text.push('\n')
+    text.push_number(word, number)
 }
 
 /// Writes the line of a refusal: that of an error whose root is `why`, in the context of what was refused.
@@ -66,7 +106,8 @@ pub(crate) fn push_refusal(
     what: BatchKind,
     why: BatchKind,
 ) -> Result<(), OutOfMemory>
-    ensures line { OnOk result (text.new.bytes ≡ text.old.bytes ++ text_of_lines (refusal_line what (kind_text why) ∷ [])) }
+    ensures line { OnOk result (text.new.bytes
+        ≡ text.old.bytes ++ text_of_lines (refusal_line what (kind_text why) ∷ [])) }
 {
     let error = Error::new(alloc, why).context(alloc, what);
     if let ChainItem::Oom(oom) = error.root_cause() {
@@ -83,7 +124,8 @@ pub(crate) fn push_contents(
     text: &mut TryString,
     workspace: &Workspace<u64>,
 ) -> Result<(), OutOfMemory>
-    ensures lines { OnOk result (text.new.bytes ≡ text.old.bytes ++ text_of_lines (reply_lines (shown_of workspace.now.contents))) }
+    ensures lines { OnOk result (text.new.bytes
+        ≡ text.old.bytes ++ text_of_lines (reply_lines (shown_of workspace.now.contents))) }
 {
     push_list(text, workspace.list())?;
     push_set(text, workspace.set())?;
@@ -93,7 +135,8 @@ pub(crate) fn push_contents(
 
 /// Writes the values of a list, in order.
 fn push_list(text: &mut TryString, list: &[u64]) -> Result<(), OutOfMemory>
-    ensures line { OnOk result (text.new.bytes ≡ text.old.bytes ++ text_of_lines (listing (codes "list") decimal list.now ∷ [])) }
+    ensures line { OnOk result (text.new.bytes
+        ≡ text.old.bytes ++ text_of_lines (listing (codes "list") decimal list.now ∷ [])) }
 {
     text.push_str("list")?;
     for value in list {
@@ -102,10 +145,11 @@ fn push_list(text: &mut TryString, list: &[u64]) -> Result<(), OutOfMemory>
     text.push('\n')
 }
 
-/// Writes the members of a set, rising.
+/// Writes the members of a set, ascending.
 fn push_set(text: &mut TryString, set: &CompoundBitSet<u64>) -> Result<(), OutOfMemory>
     ensures line { OnOk result (text.new.bytes
-        ≡ text.old.bytes ++ text_of_lines (listing (codes "set") decimal (rising set.now.members) ∷ [])) }
+        ≡ text.old.bytes ++ text_of_lines
+        (listing (codes "set") decimal (rising set.now.members) ∷ [])) }
 {
     text.push_str("set")?;
     for member in set.iter() {
@@ -114,10 +158,11 @@ fn push_set(text: &mut TryString, set: &CompoundBitSet<u64>) -> Result<(), OutOf
     text.push('\n')
 }
 
-/// Writes the live ids of a table with their values, ids rising.
+/// Writes the live ids of a table with their values, ids ascending.
 fn push_table(text: &mut TryString, table: &Slab<u64>) -> Result<(), OutOfMemory>
     ensures line { OnOk result (text.new.bytes
-        ≡ text.old.bytes ++ text_of_lines (listing (codes "table") pair_text (entries table.now.live) ∷ [])) }
+        ≡ text.old.bytes ++ text_of_lines
+        (listing (codes "table") pair_text (entries table.now.live) ∷ [])) }
 {
     text.push_str("table")?;
     for (id, value) in table.iter() {

@@ -1,12 +1,12 @@
 //! Why a script isn't run.
 use wic_base::OutOfMemory;
 
-/// Why a script was not run to its end. Own.
+/// Why a script was not run to its end.
 #[derive(Clone, Copy, Debug, PartialEq, Eq)]
 pub enum RunError {
     /// The input is no script: the line of the fault, counted from 1.
     Syntax { line: u64 },
-    /// There was no memory to read the script or to make its replies.
+    /// Out of memory: for the script or for its replies.
     Oom,
 }
 

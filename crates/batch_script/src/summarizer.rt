@@ -1,13 +1,13 @@
 //! Runs a script and tells what it came to in seven lines.
-ghost use Rattle.std.specs.Prelude.{◌≡◌, ◌+◌, ◌<◌, ◌^◌, IfOk, OnOk};
+ghost use Rattle.std.specs.Prelude.{◌≡◌, ◌+◌, ◌<◌, ◌^◌, ◌∷◌, [], ◌++◌, IfOk, OnOk};
 ghost use Rattle.batch_core.specs.State.{empty_state};
 ghost use Rattle.batch_script.specs.Machine.{plain_end, plain_step, batch as plain_batch, reserve as reservation};
 ghost use Rattle.batch_script.specs.Reading.{plain_item, plain_items};
 ghost use Rattle.batch_script.specs.RunText.{state_of};
-ghost use Rattle.batch_script.specs.Summary.{summary_text, AreCounts, CountsItem};
+ghost use Rattle.batch_script.specs.Reply.{text_of_lines};
+ghost use Rattle.batch_script.specs.Summary.{number_line, summary_text, AreCounts, CountsItem};
 
 use crate::item::{Item, Script};
-use crate::reply::push_number;
 use batch_core::{Batch, Cause, Done, Refusal, ReserveRefusal, Workspace};
 use std::alloc::Global;
 use wic_base::OutOfMemory;
@@ -21,25 +21,26 @@ struct Counts {
     refused: u64,
 }
 
-/// Runs the items of a script from an empty workspace, and answers in seven lines how many batches were committed, aborted and
+/// Runs the items of a script from an empty workspace, and returns in seven lines how many batches were committed, aborted and
 /// refused for a cause, and how many values the list has at the end, members the set, and live ids the table, and which is the next
-/// id. Own.
+/// id.
 ///
-/// No reply is made. The first item that finds no memory ends it with `OutOfMemory`, and so does want of memory for the lines: so
-/// the lines are always those of the run in which nothing is refused for memory.
+/// No reply is made. The first item that finds no memory ends it with `OutOfMemory`, and so do the lines if there is none for
+/// them: the lines are always those of the run in which nothing is refused for memory.
 pub fn summary(alloc: Global, script: Script) -> Result<TryString, OutOfMemory>
-    ensures lines { IfOk result (λ text. text.bytes ≡ summary_text (plain_items script.items.items)) }
+    ensures lines { IfOk result (λ text. text.bytes
+        ≡ summary_text (plain_items script.items.items)) }
 {
     let mut workspace = Workspace::new(alloc);
     let counts = count_items(script.items, &mut workspace)?;
     let mut text = TryString::new(alloc);
-    push_number(&mut text, "committed ", counts.committed)?;
-    push_number(&mut text, "aborted ", counts.aborted)?;
-    push_number(&mut text, "refused ", counts.refused)?;
-    push_number(&mut text, "list ", workspace.list().len() as u64)?;
-    push_number(&mut text, "set ", workspace.set().len() as u64)?;
-    push_number(&mut text, "live ", workspace.table().len() as u64)?;
-    push_number(
+    push_count(&mut text, "committed ", counts.committed)?;
+    push_count(&mut text, "aborted ", counts.aborted)?;
+    push_count(&mut text, "refused ", counts.refused)?;
+    push_count(&mut text, "list ", workspace.list().len() as u64)?;
+    push_count(&mut text, "set ", workspace.set().len() as u64)?;
+    push_count(&mut text, "live ", workspace.table().len() as u64)?;
+    push_count(
         &mut text,
         "next ",
         workspace.table().next_id().into_raw() as u64,
@@ -47,11 +48,21 @@ pub fn summary(alloc: Global, script: Script) -> Result<TryString, OutOfMemory>
     Ok(text)
 }
 
+/// Writes a line of a word and a count.
+fn push_count(text: &mut TryString, word: &str, count: u64) -> Result<(), OutOfMemory>
+    ensures line { OnOk result (text.new.bytes
+        ≡ text.old.bytes ++ text_of_lines (number_line word.now count ∷ [])) }
+{
+    text.push_str(word)?;
+    text.push_decimal_line(count)
+}
+
 /// Runs items, and counts what the batches came to.
 fn count_items(items: TryVec<Item>, workspace: &mut Workspace<u64>) -> Result<Counts, OutOfMemory>
     requires empty { state_of workspace.old ≡ empty_state }
     ensures counts { IfOk result (AreCounts (plain_items items.items)) }
-    ensures end { OnOk result (state_of workspace.new ≡ plain_end empty_state (plain_items items.items)) }
+    ensures end { OnOk result (state_of workspace.new
+        ≡ plain_end empty_state (plain_items items.items)) }
 {
     let mut counts = Counts {
         committed: 0,
@@ -71,7 +82,8 @@ fn count_item(
     counts: &mut Counts,
 ) -> Result<(), OutOfMemory>
     requires small { counts.old.committed + counts.old.aborted + counts.old.refused + 1 < 2 ^ 64 }
-    ensures counted { OnOk result (CountsItem (plain_item item) workspace.old workspace.new counts.old counts.new) }
+    ensures counted { OnOk result (CountsItem
+        (plain_item item) workspace.old workspace.new counts.old counts.new) }
 {
     match item {
         Item::Reserve(number) => enlarge(number, workspace),
@@ -82,7 +94,8 @@ fn count_item(
 
 /// Makes the room larger, where it may be so large.
 fn enlarge(number: u64, workspace: &mut Workspace<u64>) -> Result<(), OutOfMemory>
-    ensures state { OnOk result (state_of workspace.new ≡ (plain_step (state_of workspace.old) (reservation number)).1) }
+    ensures state { OnOk result (state_of workspace.new
+        ≡ (plain_step (state_of workspace.old) (reservation number)).1) }
 {
     match workspace.reserve(number) {
         Ok(()) => Ok(()),
@@ -101,7 +114,8 @@ fn count_batch(
 ) -> Result<(), OutOfMemory>
     requires small { counts.old.committed + counts.old.aborted + counts.old.refused + 1 < 2 ^ 64 }
     ensures counted { OnOk result
-        (CountsItem (plain_batch batch.commands.items batch.end) workspace.old workspace.new counts.old counts.new) }
+        (CountsItem (plain_batch batch.commands.items batch.end) workspace.old workspace.new
+        counts.old counts.new) }
 {
     match workspace.apply(batch) {
         Ok(Done::Committed) => counts.committed += 1,

@@ -32,8 +32,10 @@ pub(crate) fn wish_of(words: &TryVec<TryString>) -> Wish
 
 /// The numbers of the run that three words ask for, if they ask for one.
 fn numbers_of(word: &[u8], seed: &[u8], count: &[u8]) -> Option<(u64, u64)>
-    ensures some { IfSome result (λ numbers. AreForRun (word.now ∷ seed.now ∷ count.now ∷ []) numbers.0 numbers.1) }
-    ensures none { IfNone result ((from many : ℕ) → ¬ AreForRun (word.now ∷ seed.now ∷ count.now ∷ []) from many) }
+    ensures some { IfSome result (λ numbers. AreForRun
+        (word.now ∷ seed.now ∷ count.now ∷ []) numbers.0 numbers.1) }
+    ensures none { IfNone result ((from many : ℕ)
+        → ¬ AreForRun (word.now ∷ seed.now ∷ count.now ∷ []) from many) }
 {
     if word != b"gen".as_slice() {
         return None;

@@ -1,4 +1,5 @@
-use Rattle.std.proofs.Common.{◌≡◌, ◌≢◌, ℕ, List, ◌++◌, ◌+◌, ◌-◌, ◌*◌, ◌^◌, ◌<◌, ◌≤◌, length, take, drop, get_or, sym, ap, subst, ◌∙◌, arith, below_more, length-drop}
+use Rattle.std.proofs.Common.{◌≡◌, ◌≢◌, ℕ, List, ◌++◌, ◌+◌, ◌-◌, ◌*◌, ◌^◌, ◌<◌, ◌≤◌, length, take, drop, get_or, sym, ap, subst, ◌∙◌}
+use Rattle.std.proofs.Common.{arith, below_more, length-drop}
 use Rattle.std.specs.Prelude.{IsTrue}
 use Rattle.std.specs.Fmt.{decimal}
 use Rattle.std.specs.Int.{IsInRange}
@@ -49,7 +50,8 @@ returns-clause-some c =
     let long : length front ≡ l.end = length-take-le l.end text l.invariant.inside in
     let begins : IsTrue c.begins_number.result = cc in
     let spelled = c.begins_number.ensures.0 begins in
-    let each : EachDigit front = λ i below. subst (IsInRange 48 57) (sym (get_or-take l.end text i 0 (omega (arith, long)))) (l.invariant.each i (omega (arith, long))) in
+    let each : EachDigit front = λ i below. subst (IsInRange 48 57) (sym (get_or-take l.end text i 0 (omega (arith, long))))
+    (l.invariant.each i (omega (arith, long))) in
     let write = digits_write front l.number spelled.some spelled.leading each l.invariant.value l.invariant.small in
     let e : l.end + 0 ≡ l.end = omega arith in (
       l.invariant.small,

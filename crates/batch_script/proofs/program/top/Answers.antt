@@ -15,7 +15,8 @@ returns-clause-concludes g c =
     let answer = c.match-wish_of.answer in
     let called : CallsFor batch_meaning words source (status_of answer) (text_of_answer batch_meaning.usage answer) =
     elim c.match-wish_of.branch [
-      | in-Script w ↦ called_at words [] source (use_of g.S.Source.left g.S.Device.faults c.args.source.now w.answer_to_source-answer.new.source)
+      | in-Script w ↦ called_at words [] source
+          (use_of g.S.Source.left g.S.Device.faults c.args.source.now w.answer_to_source-answer.new.source)
           answer w.answer_to_source-answer.result w.in-Script.ensures
           (ap (use_of g.S.Source.left g.S.Device.faults c.args.source.now) w.source-is) w.answer-is
           w.answer_to_source-answer.ensures.called_for

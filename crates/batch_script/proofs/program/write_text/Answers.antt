@@ -16,7 +16,8 @@ loop-rest-preserved g c =
         inv.written.1 ∙ front-more inv.written.0 rest count,
         λ held was. c.in_ok-count.ensures.bytes (held ++ inv.written.0) (inv.written.2 held was)
             ∙ ap Some (append_assoc held inv.written.0 (take count rest)),
-        and_one g.K.Device.reaches g.K.Device.goes_on (length inv.written.0) (min count 1) (length (inv.written.0 ++ take count rest)) c.args.sink.now
+        and_one g.K.Device.reaches g.K.Device.goes_on (length inv.written.0) (min count 1)
+            (length (inv.written.0 ++ take count rest)) c.args.sink.now
             c.loop-rest.sink c.write.new.self inv.written.3 c.in_ok-count.ensures.reaches (
             let within = c.in_ok-count.ensures.within in let long = length-append inv.written.0 (take count rest) in
             let piece = length-take count rest in omega arith),
@@ -35,6 +36,7 @@ returns-in_err-count-clause-front g c =
       parts = inv.written.1;
       more = nonempty c.loop-rest.rest.now (grind (arith, nat_tests));
       gained = λ held was. failed.failed_takes_nothing ∙ inv.written.2 held was;
-      writes = and_one g.K.Device.reaches g.K.Device.goes_on (length inv.written.0) 0 (length inv.written.0) c.args.sink.now c.loop-rest.sink
+      writes = and_one g.K.Device.reaches g.K.Device.goes_on (length inv.written.0) 0
+          (length inv.written.0) c.args.sink.now c.loop-rest.sink
           c.write.new.self inv.written.3 failed.reaches (omega arith);
     })

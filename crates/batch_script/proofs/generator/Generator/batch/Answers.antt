@@ -1,5 +1,5 @@
 use Rattle.std.proofs.Common.{◌≡◌, ◌*◌, ◌∷◌, ◌++◌, [], ap, ◌∙◌, arith}
-use Rattle.batch_script.specs.Generated.{command_of, draw, end_of, next_number, number_after}
+use Rattle.batch_script.specs.Generated.{drawn_command, draw, end_of, next_number, number_after}
 use Rattle.batch_script.specs.Machine.{batch}
 use Rattle.batch_script.proofs.DrawFacts.{number_after-step, made-more, made_in_steps}
 use Rattle.batch_script.proofs.generator.Generator.batch.Goals as goal
@@ -10,7 +10,7 @@ loop-preserved c =
     let inv = c.loop.invariant in
     record {
       commands = c.in_ok-push.ensures.last ∙ (λ i. inv.commands i ++ c.command.ensures.command i ∷ [])
-          ∙ made-more command_of 3 c.args.self.now.number c.loop.counter held inv.number;
+          ∙ made-more drawn_command 3 c.args.self.now.number c.loop.counter held inv.number;
       number = number_after-step 3 c.loop.counter c.args.self.now.number held c.command.new.self.number inv.number c.command.ensures.next;
     }
 
@@ -21,7 +21,7 @@ returns c =
     let eight : c.loop.counter ≡ 8 = omega (arith, c.loop-test.false, c.loop.auto.counter-end) in
     let held : c.loop.self.number ≡ number_after 24 number = inv.number ∙ ap (λ k. number_after (3 * k) number) eight in
     let ended = c.end-end.ensures.end ∙ ap (λ x. end_of (draw 0 x)) held in
-    let commands = inv.commands ∙ ap (made_in_steps command_of 3 number) eight in
+    let commands = inv.commands ∙ ap (made_in_steps drawn_command 3 number) eight in
     record {
       batch = λ i. batch (commands i) (ended i);
       next = c.end-end.ensures.next ∙ ap next_number held;
