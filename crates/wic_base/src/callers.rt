@@ -25,9 +25,10 @@ impl Counter {
         }
     }
 
-    // The counter one step further; refused where it isn't below the end.
+    // The counter one step further; refused if it isn't below the end.
     fn step(&mut self, end: u64) -> bool
-        ensures taken { result ≡ true → (self.new.value ≡ self.old.value + 1) × (self.new.done ≡ self.old.done + 1) }
+        ensures taken { result ≡ true
+            → (self.new.value ≡ self.old.value + 1) × (self.new.done ≡ self.old.done + 1) }
         ensures refused { result ≡ false → self.new ≡ self.old }
     {
         if self.value >= end {

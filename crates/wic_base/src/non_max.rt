@@ -160,9 +160,7 @@ impl<P: NonMaxNumber> Model for NonMax<P> {
 }
 
 impl<P: NonMaxNumber> NonMax<P> {
-    /// The number `x`, or `None` exactly where that is the greatest number of its type.
-    ///
-    /// A port of `new` of the non-max types.
+    /// The number `x`, or `None` if that is the greatest number of its type, and only then.
     pub fn new(x: P) -> Option<NonMax<P>>
         ensures some { IsSome result ↔ (x ≢ P.greatest) }
         ensures number { IfSome result (λ n. n ≡ x) }
@@ -173,9 +171,7 @@ impl<P: NonMaxNumber> NonMax<P> {
         Some(NonMax { number: x })
     }
 
-    /// The number `x`.
-    ///
-    /// A port of `new_unchecked` of the non-max types, which is unsafe there.
+    /// The number `x`. It is safe: the precondition stands in the contract.
     pub fn new_unchecked(x: P) -> NonMax<P>
         requires { x ≢ P.greatest }
         ensures number { result ≡ x }
@@ -184,8 +180,6 @@ impl<P: NonMaxNumber> NonMax<P> {
     }
 
     /// The number.
-    ///
-    /// A port of `get` of the non-max types.
     pub fn get(&self) -> P
         ensures number { result ≡ self.now }
         ensures not_greatest { result ≢ P.greatest }
@@ -204,7 +198,7 @@ impl<P: NonMaxNumber> Clone for NonMax<P> {
     }
 }
 
-/// The number 0. A port of `Default` of the non-max types.
+/// The number 0.
 impl<P: NonMaxNumber> Default for NonMax<P> {
     ghost is_default = { λ n. n ≡ P.zero };
 

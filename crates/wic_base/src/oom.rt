@@ -1,4 +1,4 @@
-//! Want of memory.
+//! Out of memory, as a value.
 ghost use Rattle.std.specs.Prelude.{◌≡◌, ◌≤◌, min, Some};
 
 use std::fmt;
@@ -7,9 +7,15 @@ use std::marker::Model;
 /// The greatest size that an `OutOfMemory` keeps, in bytes: no request can be larger.
 pub const GREATEST_SIZE: usize = 9223372036854775807;
 
-/// Memory was wanted and not had. It holds the number of bytes that were asked for, and takes no memory itself.
+/// The text of an `OutOfMemory` before its size.
+pub const TEXT_BEFORE_SIZE: &str = "out of memory (failed to allocate ";
+
+/// The text of an `OutOfMemory` behind its size.
+pub const TEXT_BEHIND_SIZE: &str = " bytes)";
+
+/// An allocation failed. It holds the number of bytes that were asked for, and takes no memory itself.
 ///
-/// A contract sees it as that number. A port of `wasmtime_internal_core::error::OutOfMemory`.
+/// A contract sees it as that number.
 #[derive(Clone, Copy, Debug)]
 pub struct OutOfMemory {
     requested_allocation_size: usize,
@@ -28,9 +34,7 @@ impl Model for OutOfMemory {
 }
 
 impl OutOfMemory {
-    /// Want of so many bytes. A size above `GREATEST_SIZE` is kept as `GREATEST_SIZE`.
-    ///
-    /// A port of `OutOfMemory::new`.
+    /// An allocation of so many bytes failed. A size above `GREATEST_SIZE` is kept as `GREATEST_SIZE`.
     pub fn new(requested_allocation_size: usize) -> OutOfMemory
         ensures kept { result ≡ min requested_allocation_size GREATEST_SIZE }
     {
@@ -39,9 +43,7 @@ impl OutOfMemory {
         }
     }
 
-    /// The number of bytes that were wanted, at most `GREATEST_SIZE`.
-    ///
-    /// A port of `OutOfMemory::requested_allocation_size`.
+    /// The number of bytes that were asked for, at most `GREATEST_SIZE`.
     pub fn requested_allocation_size(&self) -> usize
         ensures size { result ≡ self.now }
         ensures bound { result ≤ GREATEST_SIZE }
@@ -58,7 +60,7 @@ impl fmt::Display for OutOfMemory {
     fn fmt<W: fmt::Write>(&self, f: &mut fmt::Formatter<W>) -> fmt::Result {
         write!(
             f,
-            "out of memory (failed to allocate {} bytes)",
+            "{TEXT_BEFORE_SIZE}{}{TEXT_BEHIND_SIZE}",
             self.requested_allocation_size
         )
     }

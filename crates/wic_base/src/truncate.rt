@@ -3,8 +3,6 @@ ghost use Rattle.std.specs.Prelude.{◌≡◌, ◌%◌, ◌^◌};
 ghost use Rattle.std.specs.Int.{w8, w16, w32, cast_signed, cast_unsigned};
 
 /// The low 16 bits of `a`, in two's complement.
-///
-/// A port of `wasmtime_internal_core::truncate::truncate_i32_to_i16`.
 pub fn truncate_i32_to_i16(a: i32) -> i16
     ensures low_bits { result ≡ cast_signed w16 (cast_unsigned w32 a % 2 ^ 16) }
 {
@@ -12,8 +10,6 @@ pub fn truncate_i32_to_i16(a: i32) -> i16
 }
 
 /// The low 8 bits of `a`, in two's complement.
-///
-/// A port of `wasmtime_internal_core::truncate::truncate_i32_to_i8`.
 pub fn truncate_i32_to_i8(a: i32) -> i8
     ensures low_bits { result ≡ cast_signed w8 (cast_unsigned w32 a % 2 ^ 8) }
 {

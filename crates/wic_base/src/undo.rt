@@ -2,10 +2,10 @@
 ghost use Rattle.std.specs.Prelude.{◌≡◌};
 ghost use Rattle.std.specs.Borrow.{sem};
 
-/// Guards a value together with the function that takes back what is done to it.
+/// Guards a value together with the function that undoes what is done to it.
 ///
 /// A guard is no `Drop`: it must be spent, by `commit` or by `roll_back`, on every way out of the function that holds it.
-/// Neither can be refused, and no call of a guard takes memory. What the function needs of the value stands in the
+/// Neither can be refused, and no call of a guard allocates. What the function needs of the value stands in the
 /// invariant of the value's type.
 ///
 /// A contract sees the held value, `inner`, and the function, `undo`. A port of `wasmtime_internal_core::undo::Undo`, which
@@ -27,8 +27,6 @@ where
     ghost use Rattle.wic_base.specs.Lends.{lends_inner};
 
     /// Holds `inner`. The function may be called on every value.
-    ///
-    /// A port of `Undo::new`.
     pub fn new(inner: T, undo: F) -> Undo<T, F, R>
         requires { F.IsAlwaysCallable undo }
         ensures holds { result.inner ≡ inner }
@@ -39,8 +37,6 @@ where
     }
 
     /// The held value.
-    ///
-    /// A port of `Deref` of `Undo`.
     pub fn get(&self) -> &T
         ensures held { result.now ≡ self.now.inner }
     {
@@ -48,8 +44,6 @@ where
     }
 
     /// The held value, to be read and written. What is written is held, and the function stays.
-    ///
-    /// A port of `DerefMut` of `Undo`.
     pub fn get_mut(&mut self) -> &mut T
         ensures* writes_back { sem 𝓛 (lends_inner T.row F.row R.row self.entry result) }
         ensures held { result.now ≡ self.old.inner }
@@ -58,8 +52,6 @@ where
     }
 
     /// The held value. The function is dropped, and never called.
-    ///
-    /// A port of `Undo::commit`.
     pub fn commit(guard: Undo<T, F, R>) -> T
     where
         F: Drop,
@@ -69,9 +61,9 @@ where
         inner
     }
 
-    /// What the function answers on the held value. It must be callable, as it was where the guard was made.
+    /// What the function returns on the held value. It must be callable, as it was when the guard was made.
     ///
-    /// Own; in the Rust crate a guard that isn't committed calls its function where it is dropped.
+    /// In the Rust crate a guard that isn't committed calls its function when it is dropped.
     pub fn roll_back(guard: Undo<T, F, R>) -> R
         requires { F.IsAlwaysCallable guard.undo }
         ensures answer { F.post guard.undo guard.inner result }

@@ -10,7 +10,7 @@ pub given_ok : {V E P : Type 0} → (r : Result V E) (v : V) → r ≡ Ok v → 
 given_ok {P = P} r v is said = subst (λ r. OnOk r P) is said
 
 module _ {F X : Type 0} where
-  -- a test that answered at each element was run on all of them
+  -- a test that gave an answer at each element was run on all of them
   pub run_of_test : (call : F → X → Bool → F → Type 0) (f last : F) (answers : List Bool) (xs : List X) → length answers ≡ length xs
       → ReturnsInTurn call f answers xs last → ClosureRun call f xs answers last
   run_of_test call f last [] [] long said = said
@@ -19,7 +19,7 @@ module _ {F X : Type 0} where
   run_of_test call f last (b ∷ answers) (x ∷ xs) long said =
       (said.0, said.1, run_of_test call said.0 last answers xs (omega arith) said.2)
 
-  -- keeping what passes is a run of the test over the elements, and the list of those for which it answered true
+  -- keeping what passes is a run of the test over the elements, and the list of those for which it returned true
   pub retains : (call : F → X → Bool → F → Type 0) (f : F) (xs ys : List X) → IsFiltered call f xs ys → Retains call f xs ys
   retains call f xs ys said = (said.0, said.1, run_of_test call f said.1 said.0 xs said.2 said.3, said.4)
 
@@ -55,7 +55,7 @@ module _ {F X : Type 0} where
         new_is,
       )
 
--- a test that answers by the element alone, and stays as it is, keeps what a list's `filter` does
+-- a test of the element alone, which stays as it is, keeps what `filter` does
 pub filter_from_retains : {F X : Type 0} (call : F → X → Bool → F → Type 0) (test : X → Bool) (f : F)
     → ((x : X) (b : Bool) (next : F) → call f x b next → (b ≡ test x) × (next ≡ f)) → (xs ys : List X)
     → Retains call f xs ys → ys ≡ filter test xs
@@ -73,7 +73,7 @@ filter_from_retains {F} {X} call test f told xs ys kept = kept.3 ∙ those kept.
       let later = those bs last xs (subst (λ g. ClosureRun call g xs bs last) here.1 said.2) in
       rw (← here.0) later
 
--- a test that always answers true keeps all
+-- a test that always returns true keeps all
 pub all_from_retains : {F X : Type 0} (call : F → X → Bool → F → Type 0)
     → ((g : F) (x : X) (b : Bool) (next : F) → call g x b next → b ≡ true) → (f : F) (xs ys : List X)
     → Retains call f xs ys → ys ≡ xs
@@ -85,7 +85,7 @@ all_from_retains {F} {X} call told f xs ys kept = kept.3 ∙ those kept.0 f kept
   those (true ∷ bs) f last (x ∷ xs) said = ap (λ l. x ∷ l) (those bs said.0 last xs said.2)
   those (false ∷ bs) f last (x ∷ xs) said = let no = told f x false said.0 said.1 in cc
 
--- a test that always answers false keeps none
+-- a test that always returns false keeps none
 pub none_from_retains : {F X : Type 0} (call : F → X → Bool → F → Type 0)
     → ((g : F) (x : X) (b : Bool) (next : F) → call g x b next → b ≡ false) → (f : F) (xs ys : List X)
     → Retains call f xs ys → ys ≡ []
@@ -113,19 +113,19 @@ written_from_retains {F} {X} call write f told xs ys kept = kept.3 ∙ those kep
       rw (here.2, later)
   those ((false, y) ∷ calls) last (x ∷ xs) said = let no = (told x false said.0 y said.1).0 in cc
 
--- a closure that always answers one value, and stays as it is, fills up with that value
+-- a closure that always returns one value, and stays as it is, fills up with that value
 pub filled_from_answers : {F X : Type 0} (call : F → X → F → Type 0) (value : X) (f : F)
     → ((x : X) (next : F) → call f x next → (x ≡ value) × (next ≡ f)) → (count : ℕ) (old new : List X)
     → AppendsAnswers call f count old new → new ≡ old ++ replicate count value
 filled_from_answers {F} {X} call value f told count old new said =
     said.3 ∙ ap (λ l. old ++ l) (those count said.0 said.1 said.2) where
-  those : (count : ℕ) (answers : List X) (last : F)
-      → ClosureRun (λ f _ x next. call f x next) f (replicate count (tt {0})) answers last → answers ≡ replicate count value
-  those zero [] last said = refl
-  those zero (x ∷ answers) last said = absurd said
-  those (suc count) [] last said = absurd said
-  those (suc count) (x ∷ answers) last said =
-      let here = told x said.0 said.1 in
-      let later = those count answers last
+      those : (count : ℕ) (answers : List X) (last : F)
+          → ClosureRun (λ f _ x next. call f x next) f (replicate count (tt {0})) answers last → answers ≡ replicate count value
+      those zero [] last said = refl
+      those zero (x ∷ answers) last said = absurd said
+      those (suc count) [] last said = absurd said
+      those (suc count) (x ∷ answers) last said =
+          let here = told x said.0 said.1 in
+          let later = those count answers last
           (subst (λ g. ClosureRun (λ f _ x next. call f x next) g (replicate count (tt {0})) answers last) here.1 said.2) in
-      rw (here.0, later)
+          rw (here.0, later)

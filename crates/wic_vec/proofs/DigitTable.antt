@@ -1,5 +1,6 @@
 -- The table has the two digits of each number below 100.
-use Rattle.std.proofs.Common.{◌≡◌, ℕ, zero, suc, ◌+◌, ◌*◌, ◌/◌, ◌%◌, ◌<◌, Bool, true, ◌&&◌, T, eqb, get_or, arith, eqb→eq, ◌-◌, eq-zero-or-pos, inl, inr}
+use Rattle.std.proofs.Common.{◌≡◌, ℕ, zero, suc, ◌+◌, ◌-◌, ◌*◌, ◌/◌, ◌%◌, ◌<◌, Bool, true, ◌&&◌, T, eqb, get_or, arith}
+use Rattle.std.proofs.Common.{eqb→eq, eq-zero-or-pos, inl, inr}
 use lib.Ieee.Fits.{and_l, and_r}
 use Rattle.wic_vec.specs.declared.string.digits.TheConstants.{PAIRS}
 

@@ -3,7 +3,7 @@ use Rattle.std.specs.Prelude.{ℕ, ◌+◌, ◌≤◌, List, length, Result, ref
 use Rattle.std.specs.Coded.{Coded, code_by, coded×, coded_ℕ, coded_list}
 use Rattle.wic_vec.specs.Room.{MakesRoom, PutsAtEnd}
 
--- the UTF-8 bytes of the text, and how many bytes fit with no request for memory
+-- the UTF-8 bytes of the text, and how many bytes fit without an allocation
 pub record TryString : Type 0 where
   pub bytes : List ℕ
   pub capacity : ℕ
@@ -14,7 +14,7 @@ try_string_code =
     code_by (List ℕ × ℕ) (coded× (coded_list coded_ℕ) coded_ℕ) (λ s. (s.bytes, s.capacity))
     (λ p. record { bytes = p.0; capacity = p.1 }) (λ _. refl)
 
--- so many more bytes fit with no request for memory
+-- so many more bytes fit without an allocation
 abbrev pub HasRoomFor : TryString → ℕ → Type 0
 HasRoomFor s more = length s.bytes + more ≤ s.capacity
 

@@ -4,7 +4,7 @@ use Rattle.std.specs.List.{refill}
 use Rattle.std.specs.Coded.{Coded, code_by, coded×, coded_ℕ, coded_list}
 use Rattle.wic_vec.specs.Room.{MakesRoom, PutsAtEnd}
 
--- the elements in order, and how many fit with no request for memory
+-- the elements in order, and how many fit without an allocation
 pub record TryVec (T : Type 0) : Type 0 where
   pub items : List T
   pub capacity : ℕ
@@ -16,7 +16,7 @@ try_vec_code {T} code =
     (λ p. record { items = p.0; capacity = p.1 }) (λ _. refl)
 
 module _ {T : Type 0} where
-  -- so many more elements fit with no request for memory
+  -- so many more elements fit without an allocation
   abbrev pub HasRoomFor : TryVec T → ℕ → Type 0
   HasRoomFor v more = length v.items + more ≤ v.capacity
 
@@ -32,6 +32,6 @@ module _ {T : Type 0} where
   abbrev pub with_item : TryVec T → ℕ → T → TryVec T
   with_item v i x = record v { items = slice_set v.items i x }
 
-  -- v with xs written over its elements from the front on: their number stays
+  -- v with xs written over its elements from the first on: their number stays
   abbrev pub with_items : TryVec T → List T → TryVec T
   with_items v xs = record v { items = refill (length v.items) v.items xs }

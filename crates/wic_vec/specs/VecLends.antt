@@ -11,7 +11,7 @@ module _ (T : RattleType) (v : MutBor (TryVec T.Denot)) where
   abbrev pub lends_slice : MutBor (List T.Denot) → Fml
   lends_slice r = Lends (the_row T) (Array T 0) v r (with_items v.now)
 
-  -- the same where the elements are lent one by one
+  -- the same when the elements are lent one by one
   abbrev pub lends_iter : IterMut T.Denot → Fml
   lends_iter it = follows (the_row T) (Array T 0) v.ghost_name (iter_mut_name it) (with_items v.now)
 
@@ -19,6 +19,6 @@ module _ (T : RattleType) (v : MutBor (TryVec T.Denot)) where
   abbrev pub lends_item : ℕ → MutBor T.Denot → Fml
   lends_item i r = Lends (the_row T) T v r (with_item v.now i)
 
-  -- the same where there is such a place, and where there is none all stays
+  -- the same if there is such a place, and if there is none all stays
   abbrev pub lends_get : ℕ → Option (MutBor T.Denot) → Fml
   lends_get i r = LendsIf (the_row T) T v r (with_item v.now i) v.now

@@ -1,21 +1,19 @@
-//! Values put on the heap, where that may want memory.
+//! Values put on the heap, where the allocation may fail.
 ghost use Rattle.std.specs.Prelude.{◌≡◌, IfOk};
 
 use std::alloc::Global;
 use wic_base::OutOfMemory;
 
-/// What can be made of a value, unless memory is wanting.
+/// What can be made of a value, unless an allocation fails.
 ///
-/// `holds` says what the new one holds. A port of `wasmtime_internal_core::alloc::TryNew`.
+/// `holds` says what the new one holds.
 pub trait TryNew {
     type Value;
 
     // What is made holds this value.
     ghost holds: { Self → Self.Value → Type 0 };
 
-    /// A new one that holds `value`. At a refusal `value` is dropped.
-    ///
-    /// A port of `TryNew::try_new`.
+    /// A new one that holds `value`. If it is refused, `value` is dropped.
     fn try_new(alloc: Global, value: Self::Value) -> Result<Self, OutOfMemory>
         ensures holds { IfOk result (λ made. holds made value) };
 }
@@ -33,9 +31,7 @@ impl<T: Drop> TryNew for Box<T> {
     }
 }
 
-/// A new `T` that holds `value`, as `T::try_new` makes it. At a refusal `value` is dropped.
-///
-/// A port of `wasmtime_internal_core::alloc::try_new`.
+/// A new `T` that holds `value`, as `T::try_new` makes it. If it is refused, `value` is dropped.
 pub fn try_new<T: TryNew>(alloc: Global, value: T::Value) -> Result<T, OutOfMemory>
     ensures holds { IfOk result (λ made. T.holds made value) }
 {

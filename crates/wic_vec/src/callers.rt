@@ -17,7 +17,7 @@ pub fn push_both(v: &mut TryVec<u32>, first: u32, second: u32) -> Result<(), Out
     Ok(())
 }
 
-// What a closure answers is what stays.
+// What a closure returns decides what stays.
 pub fn keep_even(v: &mut TryVec<u32>)
     ensures even { v.new.items ≡ filter (λ number. number % 2 == 0) v.old.items }
 {

@@ -12,14 +12,14 @@ use std::alloc::Global;
 use std::marker::Model;
 use wic_base::OutOfMemory;
 
-/// A text whose growth can be refused: each call that may want memory answers `OutOfMemory`.
+/// A text whose growth can be refused: each call that may allocate returns `OutOfMemory` if that fails.
 ///
-/// A contract sees the UTF-8 bytes of the text, `bytes`, and its `capacity`: how many bytes it holds with no
-/// request for memory. A port of `wasmtime_internal_core::alloc::TryString`.
+/// A contract sees the UTF-8 bytes of the text, `bytes`, and its `capacity`: how many bytes fit without an
+/// allocation.
 #[derive(Drop)]
 pub struct TryString {
     inner: String,
-    // What `capacity` answers. The text inside has room for at least as many bytes.
+    // What `capacity` returns. The text inside has room for at least as many bytes.
     capacity: usize,
 }
 
@@ -38,9 +38,7 @@ impl Model for TryString {
 }
 
 impl TryString {
-    /// The empty text, of capacity 0. It takes no memory.
-    ///
-    /// A port of `TryString::new`.
+    /// The empty text, of capacity 0. It doesn't allocate.
     pub fn new(alloc: Global) -> TryString
         ensures empty { result.bytes ≡ [] }
         ensures capacity { result.capacity ≡ 0 }
@@ -52,8 +50,6 @@ impl TryString {
     }
 
     /// The empty text with room for at least `capacity` bytes. A capacity of 0 is never refused.
-    ///
-    /// A port of `TryString::with_capacity`.
     pub fn with_capacity(alloc: Global, capacity: usize) -> Result<TryString, OutOfMemory>
         ensures empty { IfOk result (λ s. s.bytes ≡ []) }
         ensures capacity { IfOk result (λ s. capacity ≤ s.capacity) }
@@ -65,9 +61,7 @@ impl TryString {
         }
     }
 
-    /// A text of its own with the characters of `s`.
-    ///
-    /// A port of `TryFrom<&str>` for `TryString`.
+    /// A new text with the characters of `s`. It allocates once.
     pub fn try_from_str(alloc: Global, s: &str) -> Result<TryString, OutOfMemory>
         ensures text { IfOk result (λ text. text.bytes ≡ s.now) }
     {
@@ -87,8 +81,6 @@ impl TryString {
     }
 
     /// The same text as a `String`, in the memory of this one.
-    ///
-    /// A port of `From<TryString>` for `String`.
     pub fn into_string(self) -> String
         ensures text { string_bytes result ≡ self.bytes }
         ensures capacity { self.capacity ≤ string_capacity result }
@@ -97,11 +89,9 @@ impl TryString {
         inner
     }
 
-    /// Makes room for `additional` more bytes than there are, and mostly for further ones, so that many small
-    /// growths cost little. The text stays, and so does the value as a whole where it has that room. It is refused only
-    /// where it doesn't, and then it is as before.
-    ///
-    /// A port of `TryString::reserve`.
+    /// Makes room for `additional` more bytes, and mostly for further ones, so that many small growths cost little. The
+    /// text stays. If the capacity is enough, nothing changes. It is refused only if it is too small, and then the value
+    /// is as before.
     pub fn reserve(&mut self, additional: usize) -> Result<(), OutOfMemory>
         ensures same_text { self.new.bytes ≡ self.old.bytes }
         ensures reserves { Reserves self.old self.new additional result }
@@ -142,10 +132,8 @@ impl TryString {
         additional <= self.capacity - self.inner.len()
     }
 
-    /// Gives back the memory that the text doesn't lie in, and lowers the capacity to the length. It is never refused:
-    /// where the allocator has no smaller block, the text stays in the one it has.
-    ///
-    /// A port of `TryString::shrink_to_fit`.
+    /// Gives back the memory beyond the text, and lowers the capacity to the length. It is never refused: if the
+    /// allocator has no smaller block, the text stays in the one it has.
     pub fn shrink_to_fit(&mut self) -> Result<(), OutOfMemory>
         ensures same_text { self.new.bytes ≡ self.old.bytes }
         ensures capacity { self.new.capacity ≡ length self.new.bytes }
@@ -156,10 +144,8 @@ impl TryString {
         Ok(())
     }
 
-    /// Puts the character `c` at the end. It is refused only where the capacity is below the new length: then the
-    /// text is as before. Within the capacity it is never refused and the capacity stays.
-    ///
-    /// A port of `TryString::push`.
+    /// Puts the character `c` at the end. It is refused only if the capacity is below the new length: then the text
+    /// is as before. Within the capacity it is never refused and the capacity stays.
     pub fn push(&mut self, c: char) -> Result<(), OutOfMemory>
         ensures { Appends self.old self.new (encode_utf8 c) result }
     {
@@ -168,10 +154,8 @@ impl TryString {
         Ok(())
     }
 
-    /// Puts the text `s` at the end. It is refused only where the capacity is below the new length: then the text
-    /// is as before. Within the capacity it is never refused and the capacity stays.
-    ///
-    /// A port of `TryString::push_str`.
+    /// Puts the text `s` at the end. It is refused only if the capacity is below the new length: then the text is
+    /// as before. Within the capacity it is never refused and the capacity stays.
     pub fn push_str(&mut self, s: &str) -> Result<(), OutOfMemory>
         ensures { Appends self.old self.new s.now result }
     {
@@ -180,9 +164,8 @@ impl TryString {
         Ok(())
     }
 
-    /// The number of bytes that fit with no request for memory, those of the text among them.
-    ///
-    /// A port of `TryString::capacity`, which may be less than the room that the text inside has.
+    /// The number of bytes that fit without an allocation, those of the text among them. The text inside may have more
+    /// room.
     pub fn capacity(&self) -> usize
         ensures capacity { result ≡ self.now.capacity }
         ensures holds_all { length self.now.bytes ≤ result }
@@ -190,7 +173,7 @@ impl TryString {
         self.capacity
     }
 
-    /// The number of bytes of the text. A port of `TryString::len`.
+    /// The number of bytes of the text.
     pub fn len(&self) -> usize
         ensures length { result ≡ length self.now.bytes }
         ensures within { result ≤ self.now.capacity }
@@ -198,14 +181,14 @@ impl TryString {
         self.inner.len()
     }
 
-    /// Whether the text is empty. A port of `TryString::is_empty`.
+    /// Whether the text is empty.
     pub fn is_empty(&self) -> bool
         ensures empty { result ≡ (length self.now.bytes == 0) }
     {
         self.inner.is_empty()
     }
 
-    /// The text in place. A port of `TryString::as_str`.
+    /// The text in place.
     pub fn as_str(&self) -> &str
         ensures text { result.now ≡ self.now.bytes }
     {

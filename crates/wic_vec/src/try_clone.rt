@@ -1,4 +1,4 @@
-//! Copies of values, where making one may want memory.
+//! Copies of values, where making one may fail for memory.
 ghost use Rattle.std.specs.Prelude.{⊤, ◌≡◌, IsOk, IfOk, IfSome, MatchResult};
 ghost use Rattle.std.specs.List.{AllZip};
 ghost use Rattle.wic_vec.specs.Same.{SameOption, SameResult};
@@ -10,18 +10,16 @@ use crate::{TryString, TryVec};
 use std::alloc::Global;
 use wic_base::OutOfMemory;
 
-/// A value of which a second one with the same content can be made, unless memory is wanting.
+/// A value of which a second one with the same content can be made, unless an allocation fails.
 ///
-/// `same` says what is the same content. A port of `wasmtime_internal_core::alloc::TryClone`.
+/// `same` says what is the same content.
 pub trait TryClone: Drop {
     // Two values have the same content.
     ghost same: { Self → Self → Type 0 };
     // A value whose copy is never refused.
     ghost never_refused: { Self → Type 0 } = { λ _. ⊥ };
 
-    /// A value of its own with the same content as this one.
-    ///
-    /// A port of `TryClone::try_clone`.
+    /// A new value with the same content as this one.
     fn try_clone(&self, alloc: Global) -> Result<Self, OutOfMemory>
         ensures same { IfOk result (same self.now) }
         ensures never_refused { never_refused self.now → IsOk result };
@@ -55,7 +53,7 @@ impl<T: TryClone, E: TryClone> TryClone for Result<T, E> {
     }
 }
 
-/// A copy is a box of its own, and has the same content in it.
+/// A copy is a new box, and has the same content in it.
 impl<T: TryClone> TryClone for Box<T> {
     ghost same = { λ a b. T.same a.value b.value };
 

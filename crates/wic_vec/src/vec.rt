@@ -19,14 +19,14 @@ use std::mem::size_of;
 use std::ops::{Index, IndexMut};
 use wic_base::OutOfMemory;
 
-/// A vector whose growth can be refused: each call that may want memory answers `OutOfMemory`.
+/// A vector whose growth can be refused: each call that may allocate returns `OutOfMemory` if that fails.
 ///
-/// A contract sees its elements, `items`, and its `capacity`: how many elements it holds with no request for
-/// memory. A port of `wasmtime_internal_core::alloc::TryVec`.
+/// A contract sees its elements, `items`, and its `capacity`: how many elements fit without an
+/// allocation.
 #[derive(Drop)]
 pub struct TryVec<T> {
     inner: Vec<T>,
-    // What `capacity` answers. The vector inside has room for at least as many.
+    // What `capacity` returns. The vector inside has room for at least as many.
     capacity: usize,
 }
 
@@ -46,9 +46,7 @@ impl<T> Model for TryVec<T> {
 impl<T> TryVec<T> {
     ghost use Rattle.wic_vec.specs.VecLends.{lends_slice, lends_get};
 
-    /// The empty vector, of capacity 0. It takes no memory.
-    ///
-    /// A port of `TryVec::new`.
+    /// The empty vector, of capacity 0. It doesn't allocate.
     pub fn new(alloc: Global) -> TryVec<T>
         ensures empty { result.items ≡ [] }
         ensures capacity { result.capacity ≡ 0 }
@@ -60,8 +58,6 @@ impl<T> TryVec<T> {
     }
 
     /// The empty vector with room for at least `capacity` elements. A capacity of 0 is never refused.
-    ///
-    /// A port of `TryVec::with_capacity`.
     pub fn with_capacity(alloc: Global, capacity: usize) -> Result<TryVec<T>, OutOfMemory>
         ensures empty { IfOk result (λ v. v.items ≡ []) }
         ensures capacity { IfOk result (λ v. capacity ≤ v.capacity) }
@@ -74,8 +70,6 @@ impl<T> TryVec<T> {
     }
 
     /// The vector of the elements of `v`, in its memory.
-    ///
-    /// A port of `From<Vec<T>>` for `TryVec`.
     pub fn from_vec(v: Vec<T>) -> TryVec<T>
         ensures items { result.items ≡ v.items }
         ensures capacity { result.capacity ≡ vec_capacity v }
@@ -86,8 +80,6 @@ impl<T> TryVec<T> {
     }
 
     /// The `Vec` of the elements, in the memory of this vector.
-    ///
-    /// A port of `From<TryVec<T>>` for `Vec`.
     pub fn into_vec(self) -> Vec<T>
         ensures items { result.items ≡ self.items }
         ensures capacity { self.capacity ≤ vec_capacity result }
@@ -96,11 +88,9 @@ impl<T> TryVec<T> {
         inner
     }
 
-    /// Makes room for `additional` more elements than there are, and mostly for further ones, so that many small
-    /// growths cost little. Elements stay, and so does the vector as a whole where it has that room. It is refused only
-    /// where it doesn't, and then it is as before.
-    ///
-    /// A port of `TryVec::reserve`.
+    /// Makes room for `additional` more elements, and mostly for further ones, so that many small growths cost little.
+    /// The elements stay. If the capacity is enough, nothing changes. It is refused only if it is too small, and then the
+    /// vector is as before.
     pub fn reserve(&mut self, additional: usize) -> Result<(), OutOfMemory>
         ensures same_items { self.new.items ≡ self.old.items }
         ensures reserves { Reserves self.old self.new additional result }
@@ -141,10 +131,8 @@ impl<T> TryVec<T> {
         additional <= self.capacity - self.inner.len()
     }
 
-    /// Gives back the memory that no element lies in, and lowers the capacity to the length. It is never refused: where
-    /// the allocator has no smaller block, the elements stay in the one they have.
-    ///
-    /// A port of `TryVec::shrink_to_fit`.
+    /// Gives back the memory beyond the elements, and lowers the capacity to the length. It is never refused: if the
+    /// allocator has no smaller block, the elements stay in the one they have.
     pub fn shrink_to_fit(&mut self) -> Result<(), OutOfMemory>
         ensures same_items { self.new.items ≡ self.old.items }
         ensures capacity { self.new.capacity ≡ length self.new.items }
@@ -155,10 +143,8 @@ impl<T> TryVec<T> {
         Ok(())
     }
 
-    /// Puts `value` at the end. It is refused only where the length is the capacity: then `value` is dropped and
+    /// Puts `value` at the end. It is refused only if the length is the capacity: then `value` is dropped and
     /// the vector is as before. Below the capacity it is never refused and the capacity stays.
-    ///
-    /// A port of `TryVec::push`.
     pub fn push(&mut self, value: T) -> Result<(), OutOfMemory>
     where
         T: Drop,
@@ -178,10 +164,8 @@ impl<T> TryVec<T> {
         Ok(())
     }
 
-    /// Puts `value` at the end, within the room that there is: it takes no memory, and the capacity stays.
-    ///
-    /// This project's own, for a caller that knows of the room. It never drops a value, so the elements may be of
-    /// any type.
+    /// Puts `value` at the end, within the room that there is: it doesn't allocate, and the capacity stays. It never drops
+    /// a value, so the elements may be of any type.
     pub fn push_reserved(&mut self, value: T)
         requires { length self.old.items < self.old.capacity }
         ensures last { self.new.items ≡ self.old.items ++ value ∷ [] }
@@ -191,9 +175,7 @@ impl<T> TryVec<T> {
         self.inner.push_reserved(value);
     }
 
-    /// Takes the last element out, or answers `None` where there is none. The capacity stays.
-    ///
-    /// A port of `TryVec::pop`.
+    /// Takes the last element out and returns it, or returns `None` if there is none. The capacity stays.
     pub fn pop(&mut self) -> Option<T>
         ensures found { IsSome result ↔ (0 < length self.old.items) }
         ensures last { IfSome result (λ value. self.old.items ≡ self.new.items ++ value ∷ []) }
@@ -204,7 +186,7 @@ impl<T> TryVec<T> {
         self.inner.pop()
     }
 
-    /// The number of elements. A port of `TryVec::len`.
+    /// The number of elements.
     pub fn len(&self) -> usize
         ensures length { result ≡ length self.now.items }
         ensures within { result ≤ self.now.capacity }
@@ -212,9 +194,7 @@ impl<T> TryVec<T> {
         self.inner.len()
     }
 
-    /// How many elements fit with no request for memory, those that are there among them.
-    ///
-    /// A port of `TryVec::capacity`, which may be less than the room that the vector inside has.
+    /// How many elements fit without an allocation, those that are there among them. The vector inside may have more room.
     pub fn capacity(&self) -> usize
         ensures capacity { result ≡ self.now.capacity }
         ensures holds_all { length self.now.items ≤ result }
@@ -222,24 +202,21 @@ impl<T> TryVec<T> {
         self.capacity
     }
 
-    /// Whether there is no element. A port of `TryVec::is_empty`.
+    /// Whether there is no element.
     pub fn is_empty(&self) -> bool
         ensures empty { result ≡ (length self.now.items == 0) }
     {
         self.inner.is_empty()
     }
 
-    /// The elements in place. A port of `TryVec::as_slice`.
+    /// The elements in place.
     pub fn as_slice(&self) -> &[T]
         ensures items { result.now ≡ self.now.items }
     {
         self.inner.as_slice()
     }
 
-    /// The elements in place, to be read and written. What is written there is what the vector then has; its
-    /// length and its capacity stay.
-    ///
-    /// A port of `TryVec::deref_mut`, under the name that a `Vec` has for it.
+    /// The elements in place, to be read and written. Writes through it change the vector; length and capacity stay.
     pub fn as_mut_slice(&mut self) -> &mut [T]
         ensures* writes_back { sem 𝓛 (lends_slice T.row self.entry result) }
         ensures items { result.now ≡ self.old.items }
@@ -247,9 +224,7 @@ impl<T> TryVec<T> {
         self.inner.as_mut_slice()
     }
 
-    /// The element at place `i`, or `None` exactly where `i` isn't below the length.
-    ///
-    /// A port of `get`, which `TryVec` has from slices.
+    /// The element at place `i`, or `None` if `i` isn't below the length.
     pub fn get(&self, i: usize) -> Option<&T>
         ensures found { IsSome result ↔ (i < length self.now.items) }
         ensures item { option_copied result ≡ slice_get self.now.items i }
@@ -257,10 +232,8 @@ impl<T> TryVec<T> {
         self.inner.as_slice().get(i)
     }
 
-    /// The element at place `i`, to be read and written, or `None` exactly where `i` isn't below the length. What
-    /// is written is what place `i` then has. The other elements and the capacity stay, and at `None` all does.
-    ///
-    /// A port of `get_mut`, which `TryVec` has from slices.
+    /// The element at place `i`, to be read and written, or `None` if `i` isn't below the length. Writes through it
+    /// change place `i`. The other elements and the capacity stay.
     pub fn get_mut(&mut self, i: usize) -> Option<&mut T>
         ensures* writes_back { sem 𝓛 (lends_get T.row self.entry i result) }
         ensures found { IsSome result ↔ (i < length self.old.items) }
@@ -271,10 +244,7 @@ impl<T> TryVec<T> {
 }
 
 impl<T: Drop> TryVec<T> {
-    /// Keeps the first `len` elements, or all of them where there are no more than that, and drops the others. The
-    /// capacity stays.
-    ///
-    /// A port of `TryVec::truncate`.
+    /// Keeps the first `len` elements, or all of them if there are no more, and drops the others. The capacity stays.
     pub fn truncate(&mut self, len: usize)
         ensures front { self.new.items ≡ take len self.old.items }
         ensures capacity_stays { self.new.capacity ≡ self.old.capacity }
@@ -284,8 +254,6 @@ impl<T: Drop> TryVec<T> {
     }
 
     /// Drops all elements. The capacity stays.
-    ///
-    /// A port of `TryVec::clear`.
     pub fn clear(&mut self)
         ensures empty { self.new.items ≡ [] }
         ensures capacity_stays { self.new.capacity ≡ self.old.capacity }
@@ -295,10 +263,8 @@ impl<T: Drop> TryVec<T> {
 }
 
 impl<T: Copy> TryVec<T> {
-    /// Puts copies of the elements of `other` at the end, in order. It is refused only where the capacity is below the
+    /// Puts copies of the elements of `other` at the end, in order. It is refused only if the capacity is below the
     /// new length: then the vector is as before. Within the capacity it is never refused and the capacity stays.
-    ///
-    /// This project's own, after `Vec::extend_from_slice`.
     pub fn extend_from_slice(&mut self, other: &[T]) -> Result<(), OutOfMemory>
         ensures { Appends self.old self.new other.now result }
     {
@@ -308,7 +274,7 @@ impl<T: Copy> TryVec<T> {
     }
 }
 
-/// The element at a place below the length. A port of `TryVec`'s `Index`, at a place.
+/// The element at a place below the length.
 impl<T> Index<usize> for TryVec<T> {
     type Output = T;
 
@@ -321,8 +287,8 @@ impl<T> Index<usize> for TryVec<T> {
     }
 }
 
-/// The element at a place below the length, to be read and written. What is written is what that place then has;
-/// the other elements and the capacity stay. A port of `TryVec`'s `IndexMut`, at a place.
+/// The element at a place below the length, to be read and written. Writes through it change that place; the other
+/// elements and the capacity stay.
 impl<T> IndexMut<usize> for TryVec<T> {
     ghost use Rattle.wic_vec.specs.VecLends.{lends_item};
 
@@ -335,7 +301,7 @@ impl<T> IndexMut<usize> for TryVec<T> {
     }
 }
 
-// The refusal of `additional` more elements beside `length` of them: the bytes that they take.
+// The refusal of `additional` more elements beside `length` of them: it tells the bytes that all of them take.
 fn wanting<T>(length: usize, additional: usize) -> OutOfMemory {
     OutOfMemory::new(
         length

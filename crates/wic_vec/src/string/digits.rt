@@ -52,7 +52,8 @@ fn write_front(number: u64, digits: &mut [u8], end: usize) -> usize
 fn write_pair(number: u64, digits: &mut [u8], start: usize)
     requires number { number < 100 }
     requires inside { start + 2 ≤ length digits.old }
-    ensures written { drop start digits.new ≡ (48 + number / 10) ∷ (48 + number % 10) ∷ drop (start + 2) digits.old }
+    ensures written { drop start digits.new
+        ≡ (48 + number / 10) ∷ (48 + number % 10) ∷ drop (start + 2) digits.old }
 {
     let place = number as usize * 2;
     digits[start] = PAIRS[place];

@@ -78,7 +78,10 @@ fn lines_of_numbers_are_pushed_whole(rt: HostRuntime) -> Result<(), Fail> {
     text.push_number("", u64::MAX)?;
     text.push_number("é é ", 42)?;
     tell_count(&mut text, 7)?;
-    assert_eq!(rt; text.as_str(), "head\n0\n105\n18446744073709551615\né é 42\ncount 7\n");
+    assert_eq!(rt;
+        text.as_str(),
+        "head\n0\n105\n18446744073709551615\né é 42\ncount 7\n"
+    );
     Ok(())
 }
 
@@ -89,7 +92,10 @@ fn numbers_are_written_in_decimal(rt: HostRuntime) -> Result<(), Fail> {
         text.push_decimal(number)?;
         text.push(' ')?;
     }
-    assert_eq!(rt; text.as_str(), "0 7 10 99 100 4096 12345 18446744073709551615 ");
+    assert_eq!(rt;
+        text.as_str(),
+        "0 7 10 99 100 4096 12345 18446744073709551615 "
+    );
     Ok(())
 }
 

@@ -8,12 +8,10 @@ ghost use Rattle.std.specs.Iterator.Runs.{YieldsInOrder};
 use super::TryVec;
 use std::iter::FusedIterator;
 
-/// Gives the elements of a part of a vector by value, in order, and takes them out of it. Those that aren't asked
-/// for are dropped with it.
-///
-/// A port of `Drain`, what `TryVec::drain` answers.
+/// Gives the elements of a part of a vector by value, in order, and takes them out of it. Those that aren't taken
+/// are dropped with it.
 pub struct Drain<'a, T: Drop> {
-    // The first `keep` elements stay. Those behind them are still to come, the last one first.
+    // The first `keep` elements stay. Those behind them are still to come, starting from the last.
     vec: &'a mut TryVec<T>,
     keep: usize,
 }
@@ -21,10 +19,9 @@ pub struct Drain<'a, T: Drop> {
 impl<T: Drop> TryVec<T> {
     ghost use Rattle.wic_vec.specs.Drain.{drain_items, drain_kept, drain_capacity, drain_lender, DrainSteps, DrainKeepsAlong};
 
-    /// Takes out the elements from place `lo` to below place `hi`, and gives them in order. Once the answer is
-    /// dropped, wherever it stands then, the vector has the others, and the capacity that it had.
-    ///
-    /// A port of `TryVec::drain`, with its range as two numbers.
+    /// Takes out the elements from place `lo` to below place `hi`, and gives them in order. Once the `Drain` is dropped,
+    /// at its end or before, the vector has the others, and the capacity that it had. The range is two numbers, as a
+    /// contract has to say that they are in order and within the length.
     pub fn drain(&mut self, lo: usize, hi: usize) -> Drain<'_, T>
         requires order { lo ≤ hi }
         requires within { hi ≤ length self.old.items }
@@ -41,16 +38,17 @@ impl<T: Drop> TryVec<T> {
     }
 }
 
-// Moves the elements from `lo` to below `hi` behind the others, the last one first.
+// Moves the elements from `lo` to below `hi` behind the others, in reverse order.
 fn turn_to_end<T>(items: &mut [T], lo: usize, hi: usize)
     requires order { lo ≤ hi }
     requires within { hi ≤ length items.old }
-    ensures turned { items.new ≡ remove_range items.old lo hi ++ reverse (slice_range items.old lo hi) }
+    ensures turned { items.new
+        ≡ remove_range items.old lo hi ++ reverse (slice_range items.old lo hi) }
 {
     turn_front_to_end(&mut items[lo..], hi - lo);
 }
 
-// Moves the first `count` elements behind the others, the last one first.
+// Moves the first `count` elements behind the others, in reverse order.
 fn turn_front_to_end<T>(items: &mut [T], count: usize)
     requires within { count ≤ length items.old }
     ensures turned { items.new ≡ drop count items.old ++ reverse (take count items.old) }
@@ -91,7 +89,8 @@ impl<'a, T: Drop> Iterator for Drain<'a, T> {
     fn size_hint(&self) -> (usize, Option<usize>)
         ensures lower { IsWithinCount result.0 (item_count drain_items self.now) }
         ensures upper { IfSome result.1 (UpTo (item_count drain_items self.now)) }
-        ensures exact { result ≡ (length (drain_items self.now), Some (length (drain_items self.now))) }
+        ensures exact { result
+            ≡ (length (drain_items self.now), Some (length (drain_items self.now))) }
     {
         let count = self.len();
         (count, Some(count))

@@ -12,7 +12,7 @@ use std::ops::{DerefSlice, DerefSliceMut};
 use std::slice::{Iter, IterMut};
 use std::vec::IntoIter;
 
-/// A vector acts as the slice of its elements, with all calls of slices. A port of `TryVec`'s `Deref`.
+/// A vector acts as the slice of its elements, with all calls of slices.
 impl<T> DerefSlice for TryVec<T> {
     type Elem = T;
 
@@ -23,8 +23,7 @@ impl<T> DerefSlice for TryVec<T> {
     }
 }
 
-/// What is written to the slice is what the vector then has; its length and its capacity stay. A port of `TryVec`'s
-/// `DerefMut`.
+/// Writes to the slice change the vector; its length and its capacity stay.
 impl<T> DerefSliceMut for TryVec<T> {
     ghost use Rattle.wic_vec.specs.VecLends.{lends_slice};
 
@@ -36,14 +35,15 @@ impl<T> DerefSliceMut for TryVec<T> {
     }
 }
 
-/// The elements by value, in order. A port of `TryVec`'s `IntoIterator`.
+/// The elements by value, in order.
 impl<T: Drop> IntoIterator for TryVec<T> {
     type Item = T;
 
     type IntoIter = IntoIter<T>;
 
     ghost into_iter_gives = { λ v it. (into_iter_items it ≡ v.items) × (into_iter_len it ≡ length v.items)
-        × (length (into_iter_items it) < 2 ^ 64) × YieldsInOrder (into_iter_steps {X = T} {Z = Global}) into_iter_items
+        × (length (into_iter_items it) < 2 ^ 64)
+        × YieldsInOrder (into_iter_steps {X = T} {Z = Global}) into_iter_items
         × YieldsInReverse (into_iter_steps_back {X = T} {Z = Global}) into_iter_items };
 
     fn into_iter(self) -> IntoIter<T> {
@@ -52,7 +52,7 @@ impl<T: Drop> IntoIterator for TryVec<T> {
     }
 }
 
-/// The same as `iter` of the slice. A port of the `IntoIterator` of a `&TryVec`.
+/// The same as `iter` of the slice.
 impl<'a, T> IntoIterator for &'a TryVec<T> {
     type Item = &'a T;
 
@@ -66,7 +66,7 @@ impl<'a, T> IntoIterator for &'a TryVec<T> {
     }
 }
 
-/// The same as `iter_mut` of the slice. A port of the `IntoIterator` of a `&mut TryVec`.
+/// The same as `iter_mut` of the slice.
 impl<'a, T> IntoIterator for &'a mut TryVec<T> {
     type Item = &'a mut T;
 
@@ -79,7 +79,8 @@ impl<'a, T> IntoIterator for &'a mut TryVec<T> {
 
     fn into_iter(self) -> IterMut<'a, T>
         ensures* writes_back { sem 𝓛 (lends_iter T.row self.entry result) }
-        ensures into_iter_gives { (iter_mut_rest result ≡ self.old.items) × (length (iter_mut_rest result) < 2 ^ 64)
+        ensures into_iter_gives { (iter_mut_rest result ≡ self.old.items)
+            × (length (iter_mut_rest result) < 2 ^ 64)
             × YieldsMutRefsInOrder (iter_mut_steps {A = T}) iter_mut_rest }
     {
         self.as_mut_slice().iter_mut()

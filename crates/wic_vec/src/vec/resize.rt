@@ -11,8 +11,6 @@ use wic_base::OutOfMemory;
 
 impl<T: TryClone> TryVec<T> {
     /// A vector of `len` elements: copies of `elem`, and `elem` itself last.
-    ///
-    /// A port of `TryVec::from_elem`.
     pub fn from_elem(alloc: Global, elem: T, len: usize) -> Result<TryVec<T>, OutOfMemory>
         requires { 1 ≤ len }
         ensures items { IfOk result (λ v. FillsUp T.same elem len [] v.items) }
@@ -23,8 +21,6 @@ impl<T: TryClone> TryVec<T> {
     }
 
     /// A vector of copies of `items`, in order.
-    ///
-    /// This project's own, after `slice::to_vec`.
     pub fn from_clones(alloc: Global, items: &[T]) -> Result<TryVec<T>, OutOfMemory>
         ensures same { IfOk result (λ v. AllZip T.same items.now v.items) }
     {
@@ -36,20 +32,22 @@ impl<T: TryClone> TryVec<T> {
         Ok(copies)
     }
 
-    /// Sets the length. A shorter vector keeps its first elements, and `value` is dropped, also where the length stays.
-    /// A longer one gets copies of `value`, and `value` itself last. It is refused only where it is to be longer: then
-    /// the copies that were made stay behind the elements.
-    ///
-    /// A port of `TryVec::resize`.
+    /// Sets the length. A shorter vector keeps its first elements, and `value` is dropped, also if the length stays. A
+    /// longer one gets copies of `value`, and `value` itself last. It is refused only if it is to be longer: then the
+    /// copies that were made stay behind the elements.
     pub fn resize(&mut self, new_len: usize, value: T) -> Result<(), OutOfMemory>
-        ensures shorter { new_len ≤ length self.old.items → self.new.items ≡ take new_len self.old.items }
+        ensures shorter { new_len ≤ length self.old.items
+            → self.new.items ≡ take new_len self.old.items }
         ensures longer { length self.old.items < new_len
             → OnOk result (FillsUp T.same value new_len self.old.items self.new.items) }
         ensures refused_only_longer { OnErr result (length self.old.items < new_len) }
-        ensures never_refused_within { new_len ≤ self.old.capacity → T.never_refused value → IsOk result }
-        ensures refusal_leaves { OnErr result (AppendsCopies T.same value self.old.items self.new.items) }
+        ensures never_refused_within { new_len ≤ self.old.capacity
+            → T.never_refused value → IsOk result }
+        ensures refusal_leaves { OnErr result
+            (AppendsCopies T.same value self.old.items self.new.items) }
         ensures refusal_stays_shorter { OnErr result (length self.new.items < new_len) }
-        ensures capacity_kept_within { new_len ≤ self.old.capacity → self.new.capacity ≡ self.old.capacity }
+        ensures capacity_kept_within { new_len ≤ self.old.capacity
+            → self.new.capacity ≡ self.old.capacity }
         ensures capacity_never_falls { self.old.capacity ≤ self.new.capacity }
         ensures within { length self.new.items ≤ self.new.capacity }
     {
@@ -97,7 +95,8 @@ impl<T: Drop> TryVec<T> {
         ensures within { length self.new.items ≤ self.new.capacity }
         ensures never_refused_within { new_len ≤ self.old.capacity → IsOk result }
         ensures refused_only_beyond { OnErr result (self.old.capacity < new_len) }
-        ensures capacity_kept_within { new_len ≤ self.old.capacity → self.new.capacity ≡ self.old.capacity }
+        ensures capacity_kept_within { new_len ≤ self.old.capacity
+            → self.new.capacity ≡ self.old.capacity }
         ensures capacity_never_falls { self.old.capacity ≤ self.new.capacity }
         ensures refusal_leaves { OnErr result (self.new ≡ self.old) }
     {

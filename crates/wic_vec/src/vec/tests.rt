@@ -2,7 +2,9 @@ ghost use Rattle.std.specs.Prelude.{◌≡◌, ◌<◌, ◌≤◌, length, rever
 ghost use Rattle.std.specs.List.{All, remove_range};
 
 use super::*;
-use crate::callers::{counted, fill_up, keep_all, keep_fewer, keep_none, overwrite, push_two, write_everywhere};
+use crate::callers::{
+    counted, fill_up, keep_all, keep_fewer, keep_none, overwrite, push_two, write_everywhere,
+};
 use std::alloc::AllocError;
 use std::cmp::Ordering;
 use std::hash::{DefaultHasher, Hash, Hasher};
@@ -204,7 +206,11 @@ fn exact_block(alloc: Global, len: u32, more: usize) -> Result<usize, OutOfMemor
 #[test]
 fn exact_room_is_no_more_than_was_asked_for(rt: HostRuntime) -> Result<(), Fail> {
     for (len, more, room) in [(1, 9, 10), (16, 1, 17), (100, 3, 103), (4, 0, 4)] {
-        assert_eq!(rt; exact_block(rt.alloc(), len, more)?, room, "{len} and {more}");
+        assert_eq!(rt;
+            exact_block(rt.alloc(), len, more)?,
+            room,
+            "{len} and {more}"
+        );
     }
     Ok(())
 }

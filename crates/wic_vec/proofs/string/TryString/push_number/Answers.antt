@@ -18,7 +18,8 @@ copy_from_slice-requires c =
     let long = start_of_digits c.args.number w.result 8 w.new.digits c.ranges.number.fits (omega arith) w.ensures.written in
     let start = w.result - length c.args.word.now in
     rw c.as_bytes.ensures.value
-    (length-take-le (w.result - start) (drop start w.new.digits) (omega (arith, length-drop start w.new.digits, w.ensures.within)) ∙ omega arith)
+    (length-take-le (w.result - start) (drop start w.new.digits) (omega (arith, length-drop start w.new.digits, w.ensures.within))
+    ∙ omega arith)
 
 pub from_utf8_unchecked-requires : goal.from_utf8_unchecked-requires
 from_utf8_unchecked-requires c =
@@ -29,9 +30,17 @@ from_utf8_unchecked-requires c =
     let copied : c.copy_from_slice.new.self ≡ word = c.copy_from_slice.ensures.after ∙ c.as_bytes.ensures.value in
     let line = put_mid start (w.result - start) w.new.digits word in
     let is : drop start line ≡ word ++ (decimal c.args.number ++ 10 ∷ []) =
-    word_written w.new.digits word w.result (omega (arith, long)) (omega (arith, w.ensures.within)) ∙ ap (λ rest. word ++ rest) w.ensures.written in
+    word_written w.new.digits word w.result (omega (arith, long)) (omega (arith, w.ensures.within))
+    ∙ ap (λ rest. word ++ rest) w.ensures.written in
     let size : length (drop start line) ≤ 29 - start =
-    omega (arith, ap length is, ap length w.ensures.written, length-append word (decimal c.args.number ++ 10 ∷ []), length-drop w.result w.new.digits, w.ensures.within) in
+    omega (
+      arith,
+      ap length is,
+      ap length w.ensures.written,
+      length-append word (decimal c.args.number ++ 10 ∷ []),
+      length-drop w.result w.new.digits,
+      w.ensures.within,
+    ) in
     rw (copied, take_all (29 - start) (drop start line) size, is)
     (IsUtf8-append word (decimal c.args.number ++ 10 ∷ []) c.utf8.word (IsUtf8-from_ascii _
     (IsAscii-append (decimal c.args.number) (10 ∷ []) (IsAscii-decimal c.args.number c.ranges.number.fits) IsAscii-line_feed)))
