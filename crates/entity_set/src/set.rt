@@ -5,6 +5,7 @@ ghost use Rattle.std.specs.List.Sorted.{IsStrictlyIncreasing};
 ghost use Rattle.std.specs.FinSet as fin_set;
 ghost use Rattle.wic_base.specs.Sets.{AllBelow, HasFrom, HasMore};
 ghost use Rattle.wic_bitset.specs.Rising.{rising};
+ghost use Rattle.wic_bitset.specs.Room.{MakesRoomFor};
 
 use crate::entity::EntityRef;
 use crate::keys::Keys;
@@ -68,13 +69,8 @@ impl<K: EntityRef> EntitySet<K> {
     /// capacity, and then the set is as before. Own.
     pub fn ensure_capacity(&mut self, n: usize) -> Result<(), OutOfMemory>
         requires within { n ≤ 4294967296 }
-        ensures members { self.new.members ≡ self.old.members }
-        ensures capacity { OnOk result (n ≤ self.new.capacity) }
-        ensures never_refused_within { n ≤ self.old.capacity → IsOk result }
-        ensures unchanged_within { n ≤ self.old.capacity → self.new ≡ self.old }
-        ensures refused_only_beyond { OnErr result (self.old.capacity < n) }
-        ensures capacity_never_falls { self.old.capacity ≤ self.new.capacity }
-        ensures refusal_leaves { OnErr result (self.new ≡ self.old) }
+        ensures room {
+            MakesRoomFor (λ s. s.members) (λ s. s.capacity) n self.old self.new result }
     {
         self.bits.ensure_capacity(n)
     }

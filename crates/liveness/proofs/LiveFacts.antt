@@ -1,12 +1,12 @@
 -- Exposed uses, and what a path and its end say of each other.
 use Rattle.std.proofs.Common.{⊎_elim, ◌≡◌, ℕ, ◌<◌, Bool, true, false, not, List, [], ◌∷◌, ◌++◌}
-use Rattle.std.proofs.Common.{length, refl, ap, ◌∙◌, arith}
+use Rattle.std.proofs.Common.{length, refl, ap, ◌∙◌, ◌↔◌, inl, inr, arith}
 use Rattle.std.specs.Prelude.{◌==◌, nat_eq}
 use Rattle.std.specs.List.{list_any}
 use Rattle.std.proofs.lemmas.Bool.{or_cases, and_parts, eqb-true, eq-eqb, or_left, or_right, and_from, not-true, or_parts}
 use Rattle.std.proofs.lemmas.Bool.{both_ways, not_from_false}
 use Rattle.liveness.specs.Graph.{Body, block, EdgesStayWithin, defines, HasExposedUse}
-use Rattle.liveness.specs.Live.{IsLivePath, IsLive}
+use Rattle.liveness.specs.Live.{FlowsInto, IsLivePath, IsLive}
 use Rattle.liveness.specs.Passes.{exposes, needs, IsClosed, IsSound}
 use Rattle.liveness.specs.declared.graph.Block.{Block}
 use Rattle.liveness.specs.declared.graph.Op.{Op}
@@ -103,3 +103,14 @@ closed_if_none g v m within none exposed b below h = ⊎_elim
     let next = any_member m _ both.1 in
     absurd (both_ways _ (none next.0 (within b next.0 next.1.0)) next.1.1))
     (or_cases (exposes (block g b).0 v) _ h)
+
+-- the flow equation
+pub flow : (g : List Body) (v b : ℕ) → (IsLive g v b ↔ FlowsInto g v b)
+flow g v b = (λ live. first live.0 live.1, λ flows. ⊎_elim
+    (λ exposed. ([], exposed))
+    (λ passed. (passed.1.0 ∷ passed.1.1.1.0, (passed.0, (passed.1.1.0, passed.1.1.1.1))))
+    flows)
+  where
+    first : (rest : List ℕ) → IsLivePath g v b rest → FlowsInto g v b
+    first [] exposed = inl exposed
+    first (c ∷ rest) path = inr (path.0, (c, (path.1.0, (rest, path.1.1))))

@@ -149,23 +149,11 @@ pass_goes_on g changed r later first old new b below is pass visit = record {
       visit_closes (visit.each v) (same v) (pass.closed both.0 v);
 }
 
--- after a visit of block k that changed a set, the pass has come down to k and has changed a set
-pub goes_on_changed : (g : List Body) (changed r : Bool) (first old new : List Entities) (b k : ℕ) → k + 1 ≡ b → b ≤ length g → r ≡ true
-    → IsPassFrom g changed first old b → IsVisitOf g r k old new → IsPassFrom g true first new k
-goes_on_changed g changed r first old new b k down within one pass visit =
-    pass_goes_on g changed r true first old new k (omega arith) (sym (or_right changed r one))
-    (subst (IsPassFrom g changed first old) (sym down) pass) visit
-
--- after a visit of block k that changed no set, the pass has come down to k, and whether it changed a set is as before
-pub goes_on_same : (g : List Body) (changed r : Bool) (first old new : List Entities) (b k : ℕ) → k + 1 ≡ b → b ≤ length g → r ≡ false
-    → IsPassFrom g changed first old b → IsVisitOf g r k old new → IsPassFrom g changed first new k
-goes_on_same g changed r first old new b k down within none pass visit =
-    pass_goes_on g changed r changed first old new k (omega arith) (sym (ap (λ x. changed || x) none ∙ or_false changed))
-    (subst (IsPassFrom g changed first old) (sym down) pass) visit
-  where
-    or_false : (a : Bool) → (a || false) ≡ a
-    or_false true = refl
-    or_false false = refl
+-- after a visit of block k the pass has come down to k
+pub goes_on : (g : List Body) (changed r : Bool) (first old new : List Entities) (b k : ℕ) → k + 1 ≡ b → b ≤ length g
+    → IsPassFrom g changed first old b → IsVisitOf g r k old new → IsPassFrom g (changed || r) first new k
+goes_on g changed r first old new b k down within pass visit =
+    pass_goes_on g changed r (changed || r) first old new k (omega arith) refl (subst (IsPassFrom g changed first old) (sym down) pass) visit
 
 -- a pass ends
 pub pass_ends : (g : List Body) (changed : Bool) (old new : List Entities) (p : ℕ) → IsPassFrom g changed old new 0

@@ -1,5 +1,5 @@
 -- Which variables are live at a block, by paths.
-use Rattle.std.specs.Prelude.{◌≡◌, ℕ, ◌<◌, Bool, true, false, ◌↔◌, List, [], ◌∷◌, length, slice_index_or}
+use Rattle.std.specs.Prelude.{◌≡◌, ℕ, ◌<◌, Bool, true, false, ◌↔◌, ◌⊎◌, List, [], ◌∷◌, length, slice_index_or}
 use Rattle.std.specs.FinSet.{contains, empty}
 use Rattle.entity_set.specs.Entities.{Entities}
 use Rattle.liveness.specs.Graph.{Body, block, HasEdge, defines, HasExposedUse}
@@ -12,6 +12,10 @@ IsLivePath g v b (c ∷ rest) = (defines (block g b).0 v ≡ false) × (HasEdge 
 -- v is live at b: there is such a path
 abbrev pub IsLive : List Body → ℕ → ℕ → Type 0
 IsLive g v b = (rest : List ℕ) × IsLivePath g v b rest
+
+-- the flow equation: v is used in b before it is defined there, or isn't defined there and is live at a successor
+abbrev pub FlowsInto : List Body → ℕ → ℕ → Type 0
+FlowsInto g v b = HasExposedUse (block g b).0 v ⊎ ((defines (block g b).0 v ≡ false) × ((c : ℕ) × (HasEdge g b c × IsLive g v c)))
 
 -- whether v is in the set of block b
 abbrev pub has : List Entities → ℕ → ℕ → Bool

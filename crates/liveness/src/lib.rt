@@ -49,8 +49,10 @@
 #[cfg(test)]
 mod callers;
 mod graph;
+pub mod laws;
 mod live;
 #[cfg(test)]
 mod tests;
 
+pub use laws::law_flow;
 pub use graph::{Block, BlockBody, Graph, GraphRefusal, Op, Var};

@@ -13,21 +13,23 @@ use std::sync::ledger::Ledger;
 use wic_base::{OutOfMemory, Steps};
 use wic_vec::TryVec;
 
-/// What is known so far of each block: the variables that it defines, and those that were found live at it.
+/// What is known so far of each block: the variables that it defines, and those that were found live at it. The variables live after a
+/// block are collected in one set, which each visit uses again.
 #[derive(Drop)]
 struct Found {
     defined: TryVec<EntitySet<Var>>,
     live: TryVec<EntitySet<Var>>,
+    after: EntitySet<Var>,
 }
 
 impl Graph {
     /// For each block, in order, the variables that are live there: those for which a path of successors leads from the
-    /// block to a use before any definition. For n blocks `steps` rises by at most n (n + 1). It is refused only where
-    /// memory is wanting. Own.
+    /// block to a use before any definition. It is refused only if an allocation fails. For n blocks `steps` counts at most
+    /// n (n + 1) visits, also if it is refused.
     ///
-    /// A first look at each block finds what it exposes and what it defines. Then pass follows pass over all blocks, until
+    /// A first visit of each block finds what it exposes and what it defines. Then pass follows pass over all blocks, until
     /// one changes no set; each works on whole sets, 64 variables at a time. A pass goes from the last block to the first,
-    /// since liveness flows backwards: where blocks are numbered as they are written, only an edge back to an earlier block
+    /// since liveness flows backwards: if blocks are numbered as they are written, only an edge back to an earlier block
     /// needs a further pass, so that most graphs take two or three.
     pub fn live_in<L: Ledger>(
         &self,
@@ -38,21 +40,23 @@ impl Graph {
         ensures looks { steps.new ≤ steps.old + length self.now.blocks * (length self.now.blocks + 1) }
     {
         let mut found = self.survey(alloc, steps)?;
-        while self.pass(alloc, &mut found, steps)? {}
-        let Found { defined: _, live } = found;
+        while self.pass(&mut found, steps)? {}
+        let Found { defined: _, live, after: _ } = found;
         Ok(live)
     }
 
-    // A first look at each block: its set has what it exposes.
+    // A first visit of each block: its set has what it exposes.
     fn survey<L: Ledger>(&self, alloc: Global, steps: &mut Steps<L>) -> Result<Found, OutOfMemory>
         ensures edges { EdgesStayWithin self.now.blocks }
-        ensures surveyed { IfOk result (λ found. IsSurveyed self.now.blocks (length self.now.blocks) found.defined.items found.live.items) }
+        ensures surveyed { IfOk result (λ found. IsSurveyed self.now.blocks
+            (length self.now.blocks) found.defined.items found.live.items) }
         ensures looks { IfOk result (λ _. steps.new ≡ steps.old + length self.now.blocks) }
         ensures no_more { steps.new ≤ steps.old + length self.now.blocks }
     {
         let mut found = Found {
             defined: TryVec::new(alloc),
             live: TryVec::new(alloc),
+            after: EntitySet::new(alloc),
         };
         for b in 0..self.blocks() {
             let body = self.look(Block(b as u32), steps);
@@ -63,16 +67,13 @@ impl Graph {
         Ok(found)
     }
 
-    // Visits each block, from the last to the first, and answers whether a set changed.
-    fn pass<L: Ledger>(
-        &self,
-        alloc: Global,
-        found: &mut Found,
-        steps: &mut Steps<L>,
-    ) -> Result<bool, OutOfMemory>
+    // Visits each block, from the last to the first, and returns whether a set changed.
+    fn pass<L: Ledger>(&self, found: &mut Found, steps: &mut Steps<L>) -> Result<bool, OutOfMemory>
         requires { IsReady self.now.blocks found.old.defined.items found.old.live.items }
-        ensures ready { OnOk result (IsReady self.now.blocks found.new.defined.items found.new.live.items) }
-        ensures pass { IfOk result (λ changed. IsPassFrom self.now.blocks changed found.old.live.items found.new.live.items 0) }
+        ensures ready { OnOk result
+            (IsReady self.now.blocks found.new.defined.items found.new.live.items) }
+        ensures pass { IfOk result (λ changed.
+            IsPassFrom self.now.blocks changed found.old.live.items found.new.live.items 0) }
         ensures looks { IfOk result (λ _. steps.new ≡ steps.old + length self.now.blocks) }
         ensures no_more { steps.new ≤ steps.old + length self.now.blocks }
     {
@@ -80,39 +81,41 @@ impl Graph {
         let mut b = self.blocks();
         while b > 0 {
             b -= 1;
-            if self.visit(alloc, Block(b as u32), found, steps)? {
-                changed = true;
-            }
+            let added = self.visit(Block(b as u32), found, steps)?;
+            changed |= added;
         }
         Ok(changed)
     }
 
-    // Puts what the successors of block `b` need and it doesn't define into its set, and answers whether the set changed.
+    // Puts what the successors of block `b` need and it doesn't define into its set, and returns whether the set changed.
     fn visit<L: Ledger>(
         &self,
-        alloc: Global,
         b: Block,
         found: &mut Found,
         steps: &mut Steps<L>,
     ) -> Result<bool, OutOfMemory>
         requires below { b.0 < length self.now.blocks }
         requires ready { IsReady self.now.blocks found.old.defined.items found.old.live.items }
-        ensures ready { OnOk result (IsReady self.now.blocks found.new.defined.items found.new.live.items) }
-        ensures visit { IfOk result (λ added. IsVisitOf self.now.blocks added b.0 found.old.live.items found.new.live.items) }
+        ensures ready { OnOk result
+            (IsReady self.now.blocks found.new.defined.items found.new.live.items) }
+        ensures visit { IfOk result (λ added.
+            IsVisitOf self.now.blocks added b.0 found.old.live.items found.new.live.items) }
         ensures looks { steps.new ≡ steps.old + 1 }
     {
         let body = self.look(b, steps);
-        let mut passed = live_after(alloc, body, &found.live)?;
-        passed.subtract(&found.defined[b.0 as usize]);
-        let added = found.live[b.0 as usize].union_with(&passed)?;
+        collect_after(&mut found.after, body, &found.live)?;
+        found.after.subtract(&found.defined[b.0 as usize]);
+        let added = found.live[b.0 as usize].union_with(&found.after)?;
         Ok(added)
     }
 }
 
 // The variables that some ops define, and those that they use before they define them.
 fn effect_of(alloc: Global, ops: &[Op]) -> Result<(EntitySet<Var>, EntitySet<Var>), OutOfMemory>
-    ensures defined { IfOk result (λ sets. (v : ℕ) → fin_set.contains sets.0.members v ≡ defines ops.now v) }
-    ensures exposed { IfOk result (λ sets. (v : ℕ) → fin_set.contains sets.1.members v ≡ exposes ops.now v) }
+    ensures defined { IfOk result (λ sets. (v : ℕ)
+        → fin_set.contains sets.0.members v ≡ defines ops.now v) }
+    ensures exposed { IfOk result (λ sets. (v : ℕ)
+        → fin_set.contains sets.1.members v ≡ exposes ops.now v) }
 {
     let mut defined = EntitySet::new(alloc);
     let mut exposed = EntitySet::new(alloc);
@@ -131,18 +134,19 @@ fn effect_of(alloc: Global, ops: &[Op]) -> Result<(EntitySet<Var>, EntitySet<Var
     Ok((defined, exposed))
 }
 
-// The variables in the sets of a block's successors.
-fn live_after(
-    alloc: Global,
+// Makes `after` the variables in the sets of a block's successors, in the room that it has, if that is enough.
+fn collect_after(
+    after: &mut EntitySet<Var>,
     body: &BlockBody,
     live: &TryVec<EntitySet<Var>>,
-) -> Result<EntitySet<Var>, OutOfMemory>
+) -> Result<(), OutOfMemory>
     requires { (c : ℕ) → IsSuccessor body.now c → c < length live.now.items }
-    ensures { IfOk result (λ after. (v : ℕ) → fin_set.contains after.members v ≡ list_any (λ c. has live.now.items v c.0) body.now.1) }
+    ensures { OnOk result ((v : ℕ) → fin_set.contains after.new.members v
+        ≡ list_any (λ c. has live.now.items v c.0) body.now.1) }
 {
-    let mut after = EntitySet::new(alloc);
+    after.clear();
     for c in body.successors() {
         after.union_with(&live[c.0 as usize])?;
     }
-    Ok(after)
+    Ok(())
 }

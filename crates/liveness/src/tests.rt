@@ -1,7 +1,7 @@
 //! The worked graphs, and random graphs beside a search along paths.
 ghost use Rattle.std.specs.Prelude.{◌≡◌, ◌<◌};
 
-use crate::callers::may_be_used;
+use crate::callers::{live_in_none, live_in_three, live_in_two, loop_of_three, loop_of_two, may_be_used};
 use crate::{Block, Graph, Op, Var};
 use entity_set::EntitySet;
 use std::alloc::{AllocError, Global};
@@ -24,6 +24,26 @@ fn live_in<L: Ledger>(
 {
     let mut steps = Steps::<L>::new(blank);
     graph.live_in(alloc, &mut steps)
+}
+
+// Whether a graph has one set for each of these lists, with just its numbers, counted in a new ledger.
+fn has_live<L: Ledger>(
+    alloc: Global,
+    graph: &Graph,
+    lists: &[&[u32]],
+    blank: Blank,
+) -> Result<bool, OutOfMemory>
+    requires name { blank.name ≡ L.name }
+    requires parts { blank.parts ≡ L.parts }
+    requires some { 0 < L.parts }
+{
+    let mut steps = Steps::<L>::new(blank);
+    let sets = match graph.blocks() {
+        3 => live_in_three(graph, alloc, &mut steps)?,
+        2 => live_in_two(graph, alloc, &mut steps)?,
+        _ => live_in_none(alloc, &mut steps)?,
+    };
+    Ok(are_just(&sets, lists))
 }
 
 // Whether the variables of a set have just these numbers, which rise.
@@ -55,37 +75,22 @@ fn are_just(sets: &TryVec<EntitySet<Var>>, lists: &[&[u32]]) -> bool {
 
 #[test]
 fn a_loop_uses_what_comes_in_and_defines_what_goes_out(rt: HostRuntime) -> Result<(), Fail> {
-    let mut graph = Graph::new(rt.alloc(), 2);
-    let (a, b, c) = (graph.add_block()?, graph.add_block()?, graph.add_block()?);
-    graph.add_edge(a, b)?;
-    graph.add_edge(b, b)?;
-    graph.add_edge(b, c)?;
-    graph.add_op(a, Op::Def(Var(0)))?;
-    graph.add_op(b, Op::Use(Var(0)))?;
-    graph.add_op(b, Op::Def(Var(1)))?;
-    graph.add_op(c, Op::Use(Var(1)))?;
-    let sets = live_in::<Brand>(rt.alloc(), &graph, Blank::new(1))?;
-    assert!(rt; are_just(&sets, &[&[], &[0], &[1]]));
+    let graph = loop_of_three(rt.alloc())?;
+    assert!(rt; has_live::<Brand>(rt.alloc(), &graph, &[&[], &[0], &[1]], Blank::new(1))?);
     Ok(())
 }
 
 #[test]
 fn a_use_is_seen_round_a_loop(rt: HostRuntime) -> Result<(), Fail> {
-    let mut graph = Graph::new(rt.alloc(), 4);
-    let (a, b) = (graph.add_block()?, graph.add_block()?);
-    graph.add_edge(a, b)?;
-    graph.add_edge(b, a)?;
-    graph.add_op(b, Op::Use(Var(3)))?;
-    let sets = live_in::<Brand>(rt.alloc(), &graph, Blank::new(1))?;
-    assert!(rt; are_just(&sets, &[&[3], &[3]]));
+    let graph = loop_of_two(rt.alloc())?;
+    assert!(rt; has_live::<Brand>(rt.alloc(), &graph, &[&[3], &[3]], Blank::new(1))?);
     Ok(())
 }
 
 #[test]
 fn a_graph_without_blocks_has_no_sets(rt: HostRuntime) -> Result<(), Fail> {
     let graph = Graph::new(rt.alloc(), 4);
-    let sets = live_in::<Brand>(rt.alloc(), &graph, Blank::new(1))?;
-    assert!(rt; sets.is_empty());
+    assert!(rt; has_live::<Brand>(rt.alloc(), &graph, &[], Blank::new(1))?);
     Ok(())
 }
 

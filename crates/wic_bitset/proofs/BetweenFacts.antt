@@ -1,4 +1,4 @@
--- The members of a set between two places, as a rising list.
+-- The members of a set between two places, as an ascending list.
 use Rattle.std.proofs.Common.{⊎_elim, ◌≡◌, ℕ, zero, suc, ◌+◌, ◌-◌, ◌*◌, ◌<◌, ◌≤◌, Bool, true, false, [], ◌∷◌, ◌++◌, length, map}
 use Rattle.std.proofs.Common.{refl, sym, ap, ◌∙◌, arith, zero-add, add-zero}
 use Rattle.std.specs.Prelude.{All}
@@ -35,7 +35,7 @@ filter_shift p q a b (suc n) same =
 
 -- ---- the members between two places
 
--- where there is none
+-- if there is none
 pub between-none : (s : FinSet nat_cmp) (a b : ℕ) → ((i : ℕ) → a ≤ i → i < b → contains s i ≡ false) → members_between s a b ≡ []
 between-none s a b none = filter_none_in (contains s) a (b - a) (λ i low high. none i low (omega arith))
 
@@ -81,7 +81,7 @@ from_list-between s end below = same_set nat_cmp_total nat_cmp-IsAntisymmetric _
     grind (arith, nat_tests))
     (cases_lt q end))
 
--- and it rises
+-- and it is ascending
 pub IsStrictlyIncreasing-between : (s : FinSet nat_cmp) (a b : ℕ) → IsStrictlyIncreasing (members_between s a b)
 IsStrictlyIncreasing-between s a b =
     IsStrictlyIncreasing-filter (contains s) (range_with_len a (b - a)) (λ k h.

@@ -142,7 +142,7 @@ module _ (w : ℕ) (how : Combination) where
         order i = ⊎_elim (λ below. inr below) (λ above. inl above) (cases_lt (i / w) k)
     tells_more false b first second = subst (λ (r : FinSet nat_cmp). TellsChange b r new) first second
 
-    -- where the word changed, and where it didn't
+    -- the word changed, or it didn't
     pub tells_changed : (a b c : Bool) → b ≡ true → c ≡ true → TellsChange a s old → TellsChange b old new → TellsChange c s new
     tells_changed a b c one is first second =
         subst (λ (r : Bool). TellsChange r s new) (ap (λ r. a || r) one ∙ any_true a ∙ sym is) (tells_more a b first second)
@@ -151,7 +151,7 @@ module _ (w : ℕ) (how : Combination) where
         any_true true = refl
         any_true false = refl
 
-    -- the word stayed as it was, so the answer stays too
+    -- the word stayed as it was, so the result stays too
     pub tells_unchanged : (a b c : Bool) → b ≡ false → c ≡ a → TellsChange a s old → TellsChange b old new → TellsChange c s new
     tells_unchanged a b c none is first second =
         subst (λ (r : Bool). TellsChange r s new) (ap (λ r. a || r) none ∙ any_false a ∙ sym is) (tells_more a b first second)
@@ -230,7 +230,7 @@ of_either Intersection a b has = inl ((and_parts a b has).0)
 of_either Difference a b has = inl ((and_parts a (not b) has).0)
 
 module _ (w : ℕ) (how : Combination) (end : ℕ) (s t r : FinSet nat_cmp) (done : CombinesBelow w how end s t r) where
-  -- where the other words stay, it is the combination everywhere
+  -- if the other words stay, it is the combination everywhere
   pub combines_all : LeavesFrom w how end s t → (i : ℕ) → contains r i ≡ combined how (contains s i) (contains t i)
   combines_all leaves i = ⊎_elim
       (λ below. done.inside i below)
@@ -258,7 +258,7 @@ module _ (w : ℕ) (how : Combination) (end : ℕ) (s t r : FinSet nat_cmp) (don
     λ none i at. done.outside i (omega arith) ∙ none i at,
   )
 
--- the summary is right where the words that were done are marked
+-- the summary is right if the words that were done are marked
 pub Summarizes-combined : (w : ℕ) (how : Combination) (end : ℕ) (words summary words' summary' : Words) (t : FinSet nat_cmp)
     → Summarizes w words summary → ((i : ℕ) → contains t i ≡ true → i ≤ 4294967295) → end ≤ words.count
     → CombinesBelow w how end words.members t words'.members → words'.count ≡ words.count
@@ -280,7 +280,7 @@ Summarizes-combined w how end words summary words' summary' t old small within d
   few = omega (arith, old.few);
 }
 
--- ---- what the answers say
+-- ---- what the calls return
 
 -- a combination and the set of that name
 pub union_is : (s t r : FinSet nat_cmp) → ((i : ℕ) → contains r i ≡ combined Union (contains s i) (contains t i)) → r ≡ union s t
@@ -296,7 +296,7 @@ pub difference_is : (s t r : FinSet nat_cmp) → ((i : ℕ) → contains r i ≡
     → r ≡ difference s t
 difference_is s t r each = same_members _ _ (λ i. each i ∙ sym (contains-difference nat_cmp_total s t i))
 
--- a set that has all of s has changed exactly where it has more
+-- a set that has all of s has changed exactly if it has more
 pub change_is_more : (s r : FinSet nat_cmp) (b : Bool) → ((i : ℕ) → contains s i ≡ true → contains r i ≡ true) → TellsChange b s r
     → IsTrue b ↔ HasMore s r
 change_is_more s r true all change = (λ _. more (contains s change.0) refl, λ _. refl)
@@ -307,7 +307,7 @@ change_is_more s r true all change = (λ _. more (contains s change.0) refl, λ 
 change_is_more s r false all same =
     (λ no. absurd (cc), λ found. absurd (let now = sym (ap (λ x. contains x found.0) same) ∙ found.1.1 in let was = found.1.0 in cc))
 
--- a set of which all were in s has changed exactly where it has less
+-- a set of which all were in s has changed exactly if it has less
 pub change_is_less : (s r : FinSet nat_cmp) (b : Bool) → ((i : ℕ) → contains r i ≡ true → contains s i ≡ true) → TellsChange b s r
     → IsTrue b ↔ HasMore r s
 change_is_less s r true all change = (λ _. less (contains s change.0) refl, λ _. refl)
@@ -335,7 +335,7 @@ pub greatest_is_one : (s : FinSet nat_cmp) (x y : ℕ) → IsGreatest s x → Is
 greatest_is_one s x y one other =
     let le : x ≤ y = other.greatest x one.member in let ge : y ≤ x = one.greatest y other.member in omega arith
 
--- where the last of the first n words has a member, and the greatest member is below the capacity, there are n words
+-- if the last of the first n words has a member, and the greatest member is below the capacity, there are n words
 pub in_use_within : (w : ℕ) (s : FinSet nat_cmp) (n count m : ℕ) → 0 < w → IsGreatest s m → m < count * w
     → ((k : ℕ) → k + 1 ≡ n → IsWordEmpty w s k → ⊥) → n ≤ count
 in_use_within w s n count m some greatest below last = ⊎_elim

@@ -6,7 +6,7 @@ use Rattle.std.proofs.lemmas.Grind.{div_ceil_times}
 use Rattle.std.proofs.lemmas.Nat.{div_below, le-div}
 use Rattle.std.proofs.Math.Nat.{div-mul-le_self, suc-mul, mul-le-mul_right}
 
--- where the next word starts
+-- the start of the next word
 pub next_start : (k w : ℕ) → (k + 1) * w ≡ k * w + w
 next_start k w = rw add-one (suc-mul k w)
 

@@ -1,4 +1,4 @@
--- The greatest member, where a number is put in or taken out, and from one word to the next.
+-- The greatest member as a number is put in or taken out, and from one word to the next.
 use Rattle.std.proofs.Common.{⊎_elim, ◌≡◌, ◌≢◌, ℕ, ◌+◌, ◌*◌, ◌/◌, ◌<◌, ◌≤◌, true, false, max, Bool, not, Option, Some, None, is_some}
 use Rattle.std.proofs.Common.{IsNone, IsTrue, refl, ◌↔◌, sym, ap, subst, ◌∙◌, arith}
 use Rattle.std.specs.Prelude.{nat_eq, IfSome}
@@ -75,7 +75,7 @@ max-remove_other s i (Some m) old other =
       greatest = λ q has. old.greatest q (was_before_remove s i q has);
     }
 
--- where the greatest is taken out, no member stands behind its word
+-- if the greatest is taken out, no member stands behind its word
 pub ends-remove_greatest : (w : ℕ) (s : FinSet nat_cmp) (i : ℕ) → 0 < w → IsGreatest s i → EndsBefore w (remove s i) (i / w + 1)
 ends-remove_greatest w s i some old q has =
     let le : q ≤ i = old.greatest q (was_before_remove s i q has) in

@@ -1,4 +1,4 @@
--- The rising list of the members is any list of them up to a place that is above them all.
+-- The ascending list of the members is any list of them up to a place that is above them all.
 use Rattle.std.proofs.Common.{⊎_elim, ◌≡◌, ℕ, ◌+◌, ◌-◌, ◌<◌, ◌≤◌, Bool, true, List, [], ◌∷◌, ◌++◌, length, length-append, sym, ap, ◌∙◌}
 use Rattle.std.proofs.Common.{arith, max}
 use Rattle.std.proofs.Common.{append-nil, IsTrue, ◌↔◌}
@@ -51,7 +51,7 @@ pub from_list-rising : (s : FinSet nat_cmp) → from_list (rising s) ≡ s
 unfolding rising
 from_list-rising s = from_list-between s (greatest_of (items s) + 1) (below_top s)
 
--- the list rises
+-- the list is ascending
 pub IsStrictlyIncreasing-rising : (s : FinSet nat_cmp) → IsStrictlyIncreasing (rising s)
 unfolding rising
 IsStrictlyIncreasing-rising s = IsStrictlyIncreasing-between s 0 (greatest_of (items s) + 1)

@@ -122,7 +122,7 @@ module _ (w : ℕ) (words summary : Words) (sum : Summarizes w words summary) wh
   pub no_empty_word : (k : ℕ) → contains summary.members k ≡ true → IsWordEmpty w words.members k → ⊥
   no_empty_word k has none = let no : contains summary.members k ≡ false = (sum.digits k).1 none in absurd (cc)
 
-  -- where the words from n on are empty, the summary has none of them
+  -- if the words from n on are empty, the summary has none of them
   pub below_end : (n : ℕ) → EndsBefore w words.members n → (k : ℕ) → contains summary.members k ≡ true → k < n
   below_end n ends k has = ⊎_elim
       (λ inside. inside)
@@ -169,7 +169,7 @@ module _ (w : ℕ) (words summary : Words) (sum : Summarizes w words summary) wh
       omega arith))
       (cases_lt (i / w) (k + 1))) found
 
-  -- there is no member where the summary is empty
+  -- there is no member if the summary is empty
   pub none_through_summary : summary.members ≡ empty → words.members ≡ empty
   none_through_summary none =
       empty_of_none words.members (λ i. (sum.digits (i / w)).0 (none_in_empty summary.members none (i / w)) i refl)

@@ -52,7 +52,7 @@ module _ {X : Type 0} (f : X → ℕ) where
   map_past (y ∷ items) zero none = absurd (cc)
   map_past (y ∷ items) (suc k) none = map_past items k none
 
--- a number is a member where the digit of its word is 1
+-- a number is a member if the digit of its word is 1
 pub contains-set_of_words : (w : ℕ) (words : List ℕ) (q : ℕ) → 0 < w → contains (set_of_words w words) q ≡ has w words q
 unfolding set_of_words
 contains-set_of_words w words q some = contains-filter_range (has w words) 0 (length words * w) q ∙ ⊎_elim
@@ -104,7 +104,7 @@ module _ (w : ℕ) (words : List ℕ) (k m : ℕ) (some : 0 < w) (within : k < l
 -- ---- what the calls of the plain set stand on
 
 module _ {X : Type 0} (f : X → ℕ) where
-  -- a number of a word is a member of the set where its place is a member of the word
+  -- a number of a word is a member of the set if its place is a member of the word
   pub in_word : (w i : ℕ) (items : List X) (x : X) → 0 < w → slice_get items (i / w) ≡ Some x
       → contains (set_of_words w (map f items)) i ≡ contains (set_of w (f x)) (i % w)
   in_word w i items x some found =
@@ -169,7 +169,7 @@ module _ {X : Type 0} (f : X → ℕ) where
       sym (in_word f w (k * w + j) items x some (subst (λ q. slice_get items q ≡ Some x) (sym place) found)
       ∙ ap (contains (set_of w (f x))) digit)
 
-  -- a word is the empty set where no member stands in it
+  -- a word is the empty set if no member stands in it
   pub word_is_empty : (w k : ℕ) (items : List X) (x : X) → 0 < w → slice_get items k ≡ Some x
       → (set_of w (f x) ≡ empty) ↔ IsWordEmpty w (set_of_words w (map f items)) k
   word_is_empty w k items x some found = (
@@ -185,7 +185,7 @@ module _ {X : Type 0} (f : X → ℕ) where
   pub no_word_is_empty : (w k : ℕ) (items : List X) → 0 < w → slice_get items k ≡ None → IsWordEmpty w (set_of_words w (map f items)) k
   no_word_is_empty w k items some none i at = in_no_word f w i items some (subst (λ q. slice_get items q ≡ None) (sym at) none)
 
-  -- where there is no word k, a word without members is word k
+  -- if there is no word k, a word without members is word k
   pub no_word_of : (w k : ℕ) (items : List X) (n : ℕ) → slice_get items k ≡ None → set_of w n ≡ empty
       → IsWordOf w (set_of_words w (map f items)) k n
   no_word_of w k items n none clear j low =
@@ -269,7 +269,7 @@ module _ (w : ℕ) (s : FinSet nat_cmp) (k n : ℕ) (some : 0 < w) (word : IsWor
       let place : i ≡ k * w + i % w = sym (div-add-mod' i w) ∙ ap (λ k. k * w + i % w) at in
       ap (contains s) place ∙ sym (word (i % w) (mod_below i w some))
 
-  -- where the digits of word k are none, no member stands in it
+  -- if word k has no digit 1, no member stands in it
   pub empty_word : set_of w n ≡ empty → IsWordEmpty w s k
   empty_word none i at = by_digit i at ∙ none_in_empty (set_of w n) none (i % w)
 

@@ -15,6 +15,6 @@ compound_code =
     code_by (FinSet nat_cmp × ℕ) (coded× (code coded_ℕ) coded_ℕ) (λ s. (s.members, s.words))
     (λ p. record { members = p.0; words = p.1 }) (λ _. refl)
 
--- the capacity, where each word has so many places: the numbers below it need no further word
+-- the capacity for words of so many places: the numbers below it need no further word
 abbrev pub capacity_of : ℕ → Compound → ℕ
 capacity_of width set = set.words * width

@@ -4,5 +4,6 @@ pub mod Compound
 pub mod Greatest
 pub mod Growth
 pub mod Rising
+pub mod Room
 pub mod Summary
 pub mod Words

@@ -24,10 +24,10 @@ filled_words w s = from_list (map (λ i. i / w) (items s))
 abbrev pub SameInFilledWords : ℕ → FinSet nat_cmp → FinSet nat_cmp → Type 0
 SameInFilledWords w s t = (i : ℕ) → contains (filled_words w s) (i / w) ≡ true → contains s i ≡ contains t i
 
--- the words that have a member, rising, of those whose digits stand in word k of the summary
+-- the words that have a member, ascending, of those whose digits stand in word k of the summary
 abbrev pub block_words : ℕ → FinSet nat_cmp → ℕ → List ℕ
 block_words w s k = word_members w (filled_words w s) k
 
--- the members in these words, rising
+-- the members in these words, ascending
 abbrev pub block_members : ℕ → FinSet nat_cmp → ℕ → List ℕ
 block_members w s k = flat_map (word_members w s) (block_words w s k)

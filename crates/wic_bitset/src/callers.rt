@@ -25,7 +25,8 @@ pub fn give_way<T: ScalarBitSetStorage>(set: &mut CompoundBitSet<T>, from: usize
 pub fn leave_for_a_while<T: ScalarBitSetStorage>(set: &mut CompoundBitSet<T>, i: usize)
     ensures { set.new ≡ set.old }
 {
-    if set.remove(i) {
+    if set.contains(i) {
+        set.remove(i);
         set.insert(i).unwrap();
     }
 }

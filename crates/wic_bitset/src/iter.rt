@@ -12,9 +12,8 @@ use std::iter::FusedIterator;
 use std::marker::Model;
 use wic_scalar::ScalarBitSetStorage;
 
-/// A walk over the members of a set, rising, seen as the list of those that are left.
-///
-/// A port of `cranelift_bitset::compound::Iter`, which moves on after its end.
+/// A walk over the members of a set, ascending, seen as the list of those that are left. It stays at its end, where the original
+/// moves on.
 #[derive(Drop)]
 pub struct Iter<'a, T: ScalarBitSetStorage> {
     words: &'a Store<T>,

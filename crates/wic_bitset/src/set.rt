@@ -11,6 +11,7 @@ ghost use Rattle.wic_bitset.specs.Greatest.{IsMax};
 ghost use Rattle.wic_base.specs.Sets.{IsGreatest};
 ghost use Rattle.wic_bitset.specs.Growth.{count_after, count_for};
 ghost use Rattle.wic_bitset.specs.Rising.{rising, word_members};
+ghost use Rattle.wic_bitset.specs.Room.{MakesRoomFor};
 ghost use Rattle.wic_bitset.specs.Summary.{block_members, block_words, filled_words, Summarizes};
 ghost use Rattle.wic_bitset.specs.Words.{AreWords, EndsBefore, IsWordEmpty};
 
@@ -112,14 +113,9 @@ impl<T: ScalarBitSetStorage> CompoundBitSet<T> {
     /// Makes room for the numbers below `n`, as `try_ensure_capacity` does.
     pub fn ensure_capacity(&mut self, n: usize) -> Result<(), OutOfMemory>
         requires within { n ≤ 4294967296 }
-        ensures members { self.new.members ≡ self.old.members }
+        ensures room {
+            MakesRoomFor (λ s. s.members) (capacity_of T.width) n self.old self.new result }
         ensures words { OnOk result (self.new.words ≡ count_for T.width self.old.words n) }
-        ensures capacity { OnOk result (n ≤ capacity_of T.width self.new) }
-        ensures never_refused_within { n ≤ capacity_of T.width self.old → IsOk result }
-        ensures unchanged_within { n ≤ capacity_of T.width self.old → self.new ≡ self.old }
-        ensures refused_only_beyond { OnErr result (capacity_of T.width self.old < n) }
-        ensures capacity_never_falls { capacity_of T.width self.old ≤ capacity_of T.width self.new }
-        ensures refusal_leaves { OnErr result (self.new ≡ self.old) }
     {
         self.try_ensure_capacity(n)
     }
@@ -129,14 +125,9 @@ impl<T: ScalarBitSetStorage> CompoundBitSet<T> {
     /// before, where the original loses the members.
     pub fn try_ensure_capacity(&mut self, n: usize) -> Result<(), OutOfMemory>
         requires within { n ≤ 4294967296 }
-        ensures members { self.new.members ≡ self.old.members }
+        ensures room {
+            MakesRoomFor (λ s. s.members) (capacity_of T.width) n self.old self.new result }
         ensures words { OnOk result (self.new.words ≡ count_for T.width self.old.words n) }
-        ensures capacity { OnOk result (n ≤ capacity_of T.width self.new) }
-        ensures never_refused_within { n ≤ capacity_of T.width self.old → IsOk result }
-        ensures unchanged_within { n ≤ capacity_of T.width self.old → self.new ≡ self.old }
-        ensures refused_only_beyond { OnErr result (capacity_of T.width self.old < n) }
-        ensures capacity_never_falls { capacity_of T.width self.old ≤ capacity_of T.width self.new }
-        ensures refusal_leaves { OnErr result (self.new ≡ self.old) }
     {
         if n == 0 {
             return Ok(());

@@ -131,7 +131,7 @@ impl<T: ScalarBitSetStorage> Store<T> {
         }
     }
 
-    /// How many words there are.
+    /// The number of words.
     pub fn count(&self) -> usize
         ensures count { result ≡ self.now.count }
         ensures within { result ≤ most_words }
@@ -140,7 +140,7 @@ impl<T: ScalarBitSetStorage> Store<T> {
         self.words.len()
     }
 
-    /// How many numbers there is room for: each member is below.
+    /// The capacity: each member is below it.
     pub fn capacity(&self) -> usize
         ensures capacity { result ≡ self.now.count * T.width }
         ensures holds_all { (i : ℕ) → fin_set.contains self.now.members i ≡ true → i < result }
@@ -159,7 +159,7 @@ impl<T: ScalarBitSetStorage> Store<T> {
         }
     }
 
-    /// Puts `i`, for which there is a word, in, and answers whether it is new.
+    /// Puts `i`, for which there is a word, in, and returns whether it is new.
     pub fn insert(&mut self, i: usize) -> bool
         requires { i < self.old.count * T.width }
         ensures new { result ≡ not (fin_set.contains self.old.members i) }
@@ -171,7 +171,7 @@ impl<T: ScalarBitSetStorage> Store<T> {
         self.words[i / width].insert((i % width) as u8)
     }
 
-    /// Takes `i` out, and answers whether it was there: any number.
+    /// Takes `i`, any number, out, and returns whether it was there.
     pub fn remove(&mut self, i: usize) -> bool
         ensures present { result ≡ fin_set.contains self.old.members i }
         ensures members { self.new.members ≡ fin_set.remove self.old.members i }
@@ -197,8 +197,8 @@ impl<T: ScalarBitSetStorage> Store<T> {
         }
     }
 
-    /// Makes of each of the first `end` words what `how` makes of it and of that of `other`, and answers whether a member
-    /// came or went. Where `other` has no such word it counts as empty.
+    /// Makes of each of the first `end` words what `how` makes of it and of that of `other`, and returns whether a member came or
+    /// went. A word that `other` hasn't is empty.
     pub fn combine(&mut self, other: &Store<T>, how: Combination, end: usize) -> bool
         requires { end ≤ self.old.count }
         ensures members { CombinesBelow T.width how end self.old.members other.now.members self.new.members }
@@ -215,7 +215,7 @@ impl<T: ScalarBitSetStorage> Store<T> {
         changed
     }
 
-    // Makes of word `k` what `how` makes of it and of that of `other`, and answers whether a member came or went.
+    // Makes of word `k` what `how` makes of it and of that of `other`, and returns whether a member came or went.
     fn combine_word(&mut self, other: &Store<T>, how: Combination, k: usize) -> bool
         requires { k < self.old.count }
         ensures members { CombinesWord T.width how k self.old.members other.now.members self.new.members }
@@ -279,7 +279,7 @@ impl<T: ScalarBitSetStorage> Store<T> {
         }
     }
 
-    /// The greatest member in word `k`, or `None` exactly where it is empty.
+    /// The greatest member in word `k`, or `None` if it is empty.
     pub fn max_of_word(&self, k: usize) -> Option<usize>
         requires { k < self.now.count }
         ensures { IsMaxOfWord T.width self.now.members k result }
@@ -291,8 +291,8 @@ impl<T: ScalarBitSetStorage> Store<T> {
         }
     }
 
-    /// The greatest member, where only the first `end` words have members. It looks at the last of these words first,
-    /// and at no word below that of the answer.
+    /// The greatest member, if only the first `end` words have members. It reads the last of these words first, and no word below
+    /// that of the result.
     pub fn max_within(&self, end: usize) -> Option<usize>
         requires within { end ≤ self.now.count }
         requires none_after { EndsBefore T.width self.now.members end }
@@ -326,7 +326,7 @@ impl<T: ScalarBitSetStorage> Store<T> {
         WordIter::new(self.start(k), self.word(k))
     }
 
-    /// A walk over the members in word `k`: one look. A walk that counts has no other way to a word.
+    /// A walk over the members in word `k`: one read. A walk that counts has no other way to a word.
     pub fn read<L: Ledger>(&self, k: usize, steps: &mut Steps<L>) -> WordIter<T>
         requires { k < self.now.count }
         ensures members { result ≡ word_members T.width self.now.members k }
@@ -352,7 +352,7 @@ impl<T: ScalarBitSetStorage> Store<T> {
         self.words[k]
     }
 
-    // Word `k`, or an empty one where there is none.
+    // Word `k`, or an empty one if there is none.
     fn word_or_empty(&self, k: usize) -> ScalarBitSet<T>
         ensures { IsWordOf T.width self.now.members k (T.number result.0) }
     {
@@ -368,6 +368,7 @@ impl<T: ScalarBitSetStorage> Store<T> {
         ensures start { result ≡ k * T.width }
         ensures small { result ≤ greatest_start }
     {
+        // For the proof alone: the invariant, by which there are few enough words for the product.
         let _ = &self.words;
         k * T::width() as usize
     }

@@ -8,7 +8,7 @@ use crate::word_iter::WordIter;
 use std::marker::Model;
 use wic_scalar::ScalarBitSetStorage;
 
-/// A walk over the members in the first words of a set, rising, seen as the list of those that are left.
+/// A walk over the members in the first words of a set, ascending, seen as the list of those that are left.
 #[derive(Drop)]
 pub struct StoreIter<'a, T: ScalarBitSetStorage> {
     store: &'a Store<T>,

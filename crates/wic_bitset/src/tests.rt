@@ -456,7 +456,7 @@ fn same_call(
     Ok(same && set.contains(number as usize) == has && set.max() == list.last().copied())
 }
 
-// How many members are left after 5000 such calls, if all of them and each fifth hundredth list say the same.
+// The number of members left after 5000 such calls, if all of them, and the lists after each 500, say the same.
 fn after_random_calls(alloc: Global) -> Result<Option<usize>, Fail> {
     let mut set = CompoundBitSet::new(alloc);
     let mut list = Vec::new(alloc);

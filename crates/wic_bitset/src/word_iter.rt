@@ -8,7 +8,7 @@ use std::marker::Model;
 use wic_scalar::scalar::Iter;
 use wic_scalar::{ScalarBitSet, ScalarBitSetStorage};
 
-/// A walk over the members in one word, rising, seen as the list of those that are left.
+/// A walk over the members in one word, ascending, seen as the list of those that are left.
 #[derive(Drop)]
 pub struct WordIter<T: ScalarBitSetStorage> {
     // The number for which place 0 of the word stands.
@@ -49,7 +49,7 @@ impl<T: ScalarBitSetStorage> WordIter<T> {
         WordIter::new(0, ScalarBitSet::new())
     }
 
-    /// How many members are left, by a population count.
+    /// The number of members that are left, by a population count.
     #[inline]
     pub fn count_left(&self) -> usize
         ensures count { result ≡ length self.now }

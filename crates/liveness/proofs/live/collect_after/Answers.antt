@@ -1,5 +1,5 @@
 use Rattle.liveness.proofs.SetsFacts.{any_at, after_more}
-use Rattle.liveness.proofs.live.live_after.Goals as goal
+use Rattle.liveness.proofs.live.collect_after.Goals as goal
 
 pub index-requires : goal.index-requires
 index-requires c = c.requires _ (rw (← c.successors-c-items.ensures) (any_at _ _ _ c.loop-c-test.true))
