@@ -1,2 +1,3 @@
+-- What the proofs of errors share.
 pub mod Links
 pub mod Texts

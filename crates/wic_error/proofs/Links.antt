@@ -1,4 +1,4 @@
--- Links that lie with the root first, and are looked through from the newest on.
+-- Links that lie with the root first, and are searched from the newest on.
 use Rattle.std.proofs.Common.{◌≡◌, ℕ, ◌==◌, Bool, true, false, List, [], ◌∷◌, ◌++◌, length, reverse, slice_get, set, Option, Some, None}
 use Rattle.std.proofs.Common.{refl, sym, ap, ◌∙◌, append_assoc, if◌then◌else◌, is_some, MatchOption, map}
 use Rattle.std.specs.List.{find}
@@ -96,7 +96,7 @@ module _ {K : Type 0} where
 
 -- The first link with a number, by the place where it lies.
 module _ {K : Type 0} (number : K → ℕ) (wanted : ℕ) (repr : Repr K) where
-  -- where no kept link has the wanted number, the error has no first link with it
+  -- if no kept link has the wanted number, the error has no first link with it
   pub first_none : find (λ k. number k == wanted) (reverse (kept_of repr)) ≡ None → first_with number wanted (seen repr) ≡ None
   first_none none = rw (links_of-seen repr) none
 
@@ -106,7 +106,7 @@ module _ {K : Type 0} (number : K → ℕ) (wanted : ℕ) (repr : Repr K) where
   first_found place it =
       rw (links_of-seen repr) (find-newest _ (kept_of repr) place it ∙ sym (get-newest _ (kept_of repr) place it))
 
-  -- there is a place of the newest kept link with the wanted number exactly where the error has a first link with it
+  -- there is a place of the newest kept link with the wanted number exactly if the error has a first link with it
   pub is_first : (place : Option ℕ)
       → MatchOption place (find (λ k. number k == wanted) (reverse (kept_of repr)) ≡ None)
       (IsNewestWith (λ k. number k == wanted) (kept_of repr))

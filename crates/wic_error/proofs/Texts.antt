@@ -25,13 +25,13 @@ module _ {K : Type 0} (text : K → List ℕ) where
   texts_of-parts (Links kept) causes newest parts =
       rw (parts, reverse_parts causes [] newest) (ap (text newest ∷◌) (item_texts (reverse causes)))
 
-  -- where no link lies there is the one text of want of memory
+  -- if there is no link, there is the one text of out of memory
   pub texts_of-no_link : (repr : Repr K) → IsLinked repr → length (kept_of repr) ≡ 0
       → (newest : List ℕ) × (texts_of text (seen repr) ≡ newest ∷ [])
   texts_of-no_link (Oom size) linked none = (text_of size, refl)
   texts_of-no_link (Links kept) linked none = absurd (omega arith)
 
--- where there are causes, the report has the heading and their lines
+-- if there are causes, the report has the heading and their lines
 pub report-causes : (newest : List ℕ) (causes : List (List ℕ)) → 0 < length causes
     → report (newest ∷ causes) ≡ newest ++ codes "\n\nCaused by:\n" ++ cause_lines causes
 report-causes newest [] some = absurd (omega arith)

@@ -1,7 +1,28 @@
--- The three texts of an error, from the texts of its chain, the newest first.
-use Rattle.std.specs.Prelude.{ℕ, ◌+◌, ◌-◌, List, [], ◌∷◌, ◌++◌, length, codes, replicate}
+-- The items of a chain as they are given, what writing a text leaves, and the three texts of an error, the newest first.
+use Rattle.std.specs.Prelude.{◌≡◌, ℕ, ◌+◌, ◌-◌, List, [], ◌∷◌, ◌++◌, length, codes, replicate, Option, Some}
 use Rattle.std.specs.List.{flat_map}
 use Rattle.std.specs.Fmt.{decimal}
+use Rattle.wic_base.specs.OutOfMemory.{text_of}
+use Rattle.wic_error.specs.Error.{Item, link, oom}
+use Rattle.wic_error.specs.declared.chain.ChainItem.{ChainItem}
+use Rattle.wic_error.specs.declared.chain.ChainItem.TheVariants.{Link, Oom}
+
+-- the item: the link behind the reference, or out of memory
+abbrev pub item_of : {K : Type 0} → ChainItem K → Item K
+item_of (Link k) = link k.now
+item_of (Oom size) = oom size
+
+-- what an item prints: what the link prints, or the text of out of memory
+abbrev pub item_output : {K : Type 0} → (K → Option (List ℕ)) → ChainItem K → Option (List ℕ)
+item_output output (Link k) = output k.now
+item_output output (Oom size) = Some (text_of size)
+
+-- a prefix of the text stands behind what was there
+pub record GainsFront (before text after : List ℕ) : Type 0 where
+  pub front : List ℕ
+  pub rest : List ℕ
+  pub parts : text ≡ front ++ rest
+  pub gained : after ≡ before ++ front
 
 -- the text of the first item alone
 abbrev pub first_text : List (List ℕ) → List ℕ
@@ -29,7 +50,7 @@ cause_lines [] = []
 cause_lines (cause ∷ []) = codes "    " ++ cause ++ codes "\n"
 cause_lines (cause ∷ next ∷ causes) = numbered_lines 0 (cause ∷ next ∷ causes)
 
--- the first text, and where there are causes a heading and their lines
+-- the first text, and if there are causes a heading and their lines
 abbrev pub report : List (List ℕ) → List ℕ
 report [] = []
 report (text ∷ []) = text

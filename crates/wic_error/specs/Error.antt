@@ -2,12 +2,12 @@
 use Rattle.std.specs.Prelude.{◌≡◌, ℕ, ◌==◌, Bool, true, false, List, [], ◌∷◌, ◌++◌, map, Option, Some, None, find, if◌then◌else◌}
 use Rattle.wic_base.specs.OutOfMemory.{text_of}
 
--- an error: want of memory with the size that was wanted, or links, the newest and those before it, the newest first
+-- an error: out of memory with the size that was asked for, or links, the newest and the older ones, newest first
 pub data Error (K : Type 0) : Type 0 where
   out_of_memory : ℕ → Error K
   links : K → List K → Error K
 
--- an item of a chain: a link, or want of memory
+-- an item of a chain: a link, or out of memory
 pub data Item (K : Type 0) : Type 0 where
   link : K → Item K
   oom : ℕ → Item K
@@ -18,7 +18,7 @@ module _ {K : Type 0} where
   replace_first test written [] = []
   replace_first test written (k ∷ ks) = if test k then written ∷ ks else k ∷ replace_first test written ks
 
-  -- whether an error is want of memory
+  -- whether an error is out of memory
   abbrev pub is_oom : Error K → Bool
   is_oom (out_of_memory size) = true
   is_oom (links newest older) = false
@@ -28,12 +28,12 @@ module _ {K : Type 0} where
   links_of (out_of_memory size) = []
   links_of (links newest older) = newest ∷ older
 
-  -- the items of an error's chain: its links, the newest first, or the one want of memory
+  -- the items of an error's chain: its links, the newest first, or the one out of memory
   abbrev pub items_of : Error K → List (Item K)
   items_of (out_of_memory size) = oom size ∷ []
   items_of (links newest older) = map link (newest ∷ older)
 
-  -- want of memory as an item, where there is one
+  -- out of memory as an item, if there is one
   abbrev pub want_of : Option ℕ → List (Item K)
   want_of None = []
   want_of (Some size) = oom size ∷ []

@@ -12,7 +12,7 @@ module _ {K : Type 0} where
   kept_of (Oom size) = []
   kept_of (Links kept) = kept.items
 
-  -- the want of memory
+  -- out of memory, with its size
   abbrev pub oom_of : Repr K → Option ℕ
   oom_of (Oom size) = Some size
   oom_of (Links kept) = None
@@ -22,7 +22,7 @@ module _ {K : Type 0} where
   seen (Oom size) = out_of_memory size
   seen (Links kept) = error_of (reverse kept.items)
 
-  -- where there is no want of memory there is a link
+  -- an error that isn't out of memory has a link
   abbrev pub IsLinked : Repr K → Type 0
   IsLinked (Oom size) = ⊤
   IsLinked (Links kept) = 0 < length kept.items

@@ -3,8 +3,6 @@ pub mod Chain
 pub mod Code
 pub mod Context
 pub mod Error
-pub mod Item
 pub mod Kept
-pub mod Kind
 pub mod Lends
 pub mod Repr

@@ -1,7 +1,7 @@
 //! A caller of this crate, proved from its contracts alone.
-ghost use Rattle.std.specs.Prelude.{◌≡◌, ◌⊎◌, ◌++◌, ◌∷◌, [], codes, slice_get, Some, IsTrue, IfOk, IfErr};
+ghost use Rattle.std.specs.Prelude.{◌≡◌, ◌⊎◌, ◌++◌, ◌∷◌, [], codes, slice_get, Some, IsTrue, IfOk, IfErr, is_some};
 ghost use Rattle.std.specs.Fmt.{decimal};
-ghost use Rattle.wic_error.specs.Error.{links, is_oom};
+ghost use Rattle.wic_error.specs.Error.{first_with, links, is_oom};
 ghost use Rattle.wic_error.specs.declared.callers.Trouble.TheVariants.{Launching, NoDevice};
 
 use crate::{Context, Error, Kind};
@@ -51,9 +51,17 @@ fn find(alloc: Global, devices: &[u64], id: u64) -> Result<usize, Error<Trouble>
 // The same, and what it was for.
 pub fn launch(alloc: Global, devices: &[u64], id: u64) -> Result<usize, Error<Trouble>>
     ensures found { IfOk result (λ place. slice_get devices.now place ≡ Some id) }
-    ensures missing { IfErr result (λ error. (error ≡ links Launching (NoDevice id ∷ [])) ⊎ IsTrue (is_oom error)) }
+    ensures missing { IfErr result
+        (λ error. (error ≡ links Launching (NoDevice id ∷ [])) ⊎ IsTrue (is_oom error)) }
 {
     find(alloc, devices, id).context(alloc, Trouble::Launching)
+}
+
+// Looking for a kind asks nothing more of the links; they need no `Drop`.
+pub fn tells<K: Kind>(error: &Error<K>, number: u32) -> bool
+    ensures told { result ≡ is_some (first_with K.number number error.now) }
+{
+    error.is(number)
 }
 
 // One line that tells all of it.

@@ -3,14 +3,15 @@ ghost use Rattle.std.specs.Prelude.{◌≡◌, ◌++◌, OnOk};
 ghost use Rattle.std.specs.Iterator.{YieldsFirstBy, item_count};
 ghost use Rattle.wic_base.specs.OutOfMemory.{text_of};
 ghost use Rattle.wic_error.specs.Error.{items_of, item_text, EndsIn};
-ghost use Rattle.wic_error.specs.Item.{item_of};
+ghost use Rattle.wic_error.specs.Chain.{item_of};
 
 use crate::error::Error;
 use crate::kind::Kind;
 use crate::repr::Repr;
+use std::fmt;
 use std::iter::FusedIterator;
 use std::marker::Model;
-use wic_base::OutOfMemory;
+use wic_base::{OutOfMemory, TEXT_BEFORE_SIZE, TEXT_BEHIND_SIZE};
 use wic_vec::TryString;
 
 /// An item of an error's chain. It stands for the `&dyn Error` that a chain gives in Rust.
@@ -18,13 +19,14 @@ use wic_vec::TryString;
 pub enum ChainItem<'a, K> {
     /// A link, to be read.
     Link(&'a K),
-    /// The want of memory that the error is.
+    /// The out of memory that the error is.
     Oom(OutOfMemory),
 }
 
 impl<'a, K: Kind> ChainItem<'a, K> {
-    /// Puts the text of this item at the end of `out`: that of the link, or the Display text of want of memory.
-    pub(crate) fn push_text(&self, out: &mut TryString) -> Result<(), OutOfMemory>
+    /// Puts the text of this item at the end of `out`: that of the link, or the Display text of out of memory. If it is
+    /// refused, a prefix of it may stand there.
+    pub fn push_text(&self, out: &mut TryString) -> Result<(), OutOfMemory>
         ensures whole { OnOk result (out.new.bytes ≡ out.old.bytes ++ item_text K.text (item_of self.now)) }
     {
         match self {
@@ -34,19 +36,31 @@ impl<'a, K: Kind> ChainItem<'a, K> {
     }
 }
 
-/// Puts the Display text of want of memory at the end of `out`.
+/// Prints the item itself: what the link prints, or the text of out of memory.
+impl<'a, K: fmt::Display> fmt::Display for ChainItem<'a, K> {
+    ghost use Rattle.wic_error.specs.Chain.{item_output};
+
+    ghost output = { item_output K.output };
+
+    fn fmt<W: fmt::Write>(&self, f: &mut fmt::Formatter<W>) -> fmt::Result {
+        match self {
+            ChainItem::Link(link) => link.fmt(f),
+            ChainItem::Oom(oom) => oom.fmt(f),
+        }
+    }
+}
+
+/// Puts the Display text of out of memory at the end of `out`.
 fn push_oom_text(oom: OutOfMemory, out: &mut TryString) -> Result<(), OutOfMemory>
     ensures whole { OnOk result (out.new.bytes ≡ out.old.bytes ++ text_of oom) }
 {
-    out.push_str("out of memory (failed to allocate ")?;
+    out.push_str(TEXT_BEFORE_SIZE)?;
     out.push_decimal(oom.requested_allocation_size() as u64)?;
-    out.push_str(" bytes)")
+    out.push_str(TEXT_BEHIND_SIZE)
 }
 
-/// Gives the links of an error, the newest first, or the one want of memory, and stays at its end. A contract sees the
-/// items that are still to come.
-///
-/// A port of `wasmtime_internal_core::error::Chain`.
+/// Gives the links of an error, the newest first, or the one out of memory, and then `None` for good. A contract sees
+/// the items that are still to come.
 #[derive(Drop)]
 pub struct Chain<'a, K> {
     // The links that are still to come, the root first.
@@ -68,9 +82,7 @@ impl<'a, K> Model for Chain<'a, K> {
 }
 
 impl<K> Error<K> {
-    /// The items of this error: its links, the newest first and the root last, or the one want of memory.
-    ///
-    /// A port of `Error::chain`.
+    /// The items of this error: its links, the newest first and the root last, or the one out of memory.
     pub fn chain(&self) -> Chain<'_, K>
         ensures items { result ≡ items_of self.now }
     {
@@ -80,9 +92,7 @@ impl<K> Error<K> {
         }
     }
 
-    /// The last item of `chain`: the root, or the want of memory that this error is.
-    ///
-    /// A port of `Error::root_cause`.
+    /// The last item of `chain`: the root, or the out of memory that this error is.
     pub fn root_cause(&self) -> ChainItem<'_, K>
         ensures last { EndsIn (items_of self.now) (item_of result) }
     {

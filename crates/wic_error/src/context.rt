@@ -9,20 +9,20 @@ use crate::error::Error;
 use crate::kind::Kind;
 use std::alloc::Global;
 
-/// What may have no value, and then gets a context. A port of `wasmtime_internal_core::error::Context`.
+/// What may have no value, and then gets a context.
 pub trait Context<T, K: Kind + Drop>: Sized {
     ghost value: { Self → Option T };
 
     ghost cause: { Self → Option (Chain K) };
 
-    /// The value; or where there is none, the context on the error that stands in its place, or the error of this one
-    /// context where there is no error. A value is answered as `Ok` and never refused.
+    /// The value; or if there is none, the context on the error that stands in its place, or the error of this one
+    /// context if there is no error. A value is returned as `Ok` and never refused.
     fn context(self, alloc: Global, context: K) -> Result<T, Error<K>>
         ensures kept { IfSome (value self) (λ x. result ≡ Ok x) }
         ensures in_context { IfNone (value self) (IsErrAnd result (IsInContext (cause self) context)) };
 
-    /// The same with the context that `f` answers. It is called only where there is no value, also where the error is
-    /// want of memory, and needs to be callable there only.
+    /// The same with the context that `f` returns. It is called only if there is no value, also if the error is out of
+    /// memory, and needs to be callable only then.
     fn with_context<F: FnOnce() -> K + Drop>(self, alloc: Global, f: F) -> Result<T, Error<K>>
         requires { ForNone (value self) (F.pre f) }
         ensures kept { IfSome (value self) (λ x. result ≡ Ok x) }
@@ -79,8 +79,8 @@ pub fn result_context<T: Drop, K: Kind + Drop>(
     r.map_err(|root| in_context(alloc, root, context))
 }
 
-/// The same with the context that `f` answers, which is called only where there is no value, and needs to be callable
-/// there only.
+/// The same with the context that `f` returns, which is called only if there is no value, and needs to be callable
+/// only then.
 ///
 /// It stands for `Context::with_context` of a `Result` with an error of another type.
 pub fn result_with_context<T: Drop, K: Kind + Drop, F: FnOnce() -> K + Drop>(
@@ -90,7 +90,8 @@ pub fn result_with_context<T: Drop, K: Kind + Drop, F: FnOnce() -> K + Drop>(
 ) -> Result<T, Error<K>>
     requires { ForErr r (λ _. F.pre f) }
     ensures kept { IfOk r (λ value. result ≡ Ok value) }
-    ensures in_context { IfErr r (λ root. (context : K) × F.post f context × IsErrAnd result (IsContextOf root context)) }
+    ensures in_context { IfErr r (λ root. (context : K) × F.post f context
+        × IsErrAnd result (IsContextOf root context)) }
 {
     r.map_err(|root| in_context(alloc, root, f()))
 }
@@ -102,9 +103,7 @@ fn in_context<K: Kind + Drop>(alloc: Global, root: K, context: K) -> Error<K>
     Error::new(alloc, root).context(alloc, context)
 }
 
-/// `Ok` of a value, with the error type of this crate.
-///
-/// A port of `wasmtime_internal_core::error::Ok`.
+/// `Ok` of a value, with the error type of this crate. It stands for the function `Ok` of the Rust crate.
 pub fn ok<T, K: Kind>(value: T) -> Result<T, Error<K>>
     ensures value { result ≡ Ok value }
 {

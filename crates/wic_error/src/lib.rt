@@ -1,22 +1,18 @@
-//! Error chains that give way to want of memory.
+//! Error chains that give way to out of memory.
 //!
 //! An `Error<K>` says what went wrong as a chain of links: the root cause, and the contexts that were put in front of it
-//! on the way up. What a link is, the caller says: any type that implements `Kind`, with a number by which links are
-//! looked for and a text. Where there is no memory for a link the error becomes want of memory, which takes none and
-//! goes through every further call as it is, so that a caller never meets a third outcome.
+//! on the way up. The caller chooses what a link is: any type that implements `Kind`, with a number by which links are
+//! looked for and a text. If there is no memory for a link, the error becomes out of memory, which takes none and goes
+//! through every further call as it is, so that a caller never meets a third outcome.
 //!
 //! ```text
-//! fn find(alloc: Global, devices: &[u64], id: u64) -> Result<usize, Error<Trouble>> {
-//!     let place = devices.iter().position(|device| *device == id);
-//!     place.context(alloc, Trouble::NoDevice(id))
-//! }
+//! fn find(alloc: Global, devices: &[u64], id: u64) -> Result<usize, Error<Trouble>>
 //!
-//! fn launch(alloc: Global, devices: &[u64], id: u64) -> Result<usize, Error<Trouble>> {
-//!     find(alloc, devices, id).context(alloc, Trouble::Launching)
-//! }
+//! pub fn launch(alloc: Global, devices: &[u64], id: u64) -> Result<usize, Error<Trouble>>
 //! ```
 //!
-//! The `line` of what `launch` answers for device 7 is `aborting launch: no device 7`, and its `report` is
+//! Both are proved in `src/callers.rt`: a place that they return is the device's, and a failure is one link each, or out
+//! of memory. The `line` of what `launch` returns for device 7 is `aborting launch: no device 7`, and its `report` is
 //!
 //! ```text
 //! aborting launch
@@ -25,21 +21,16 @@
 //!     no device 7
 //! ```
 //!
-//! `callers.rt` has both functions, and they are proved: a place that is answered is the device's, and a failure is
-//! these two links or want of memory.
+//! **Limits.** Numbers are the caller's own: two kinds with one number are one kind to `downcast`. There is no backtrace,
+//! and a link has no source of its own. A `Kind` writes what its own `text` says; nothing checks that it can be read.
 //!
-//! **What it does not do.** Numbers are the caller's own: two kinds of one number are one kind to `downcast`. There is no
-//! backtrace, and a link has no source of its own. What a `Kind` writes is what its own `text` says; nothing checks that
-//! it can be read.
+//! **Costs.** Links lie in one list, the root first: `context` pushes, in amortised constant time, and no link is cloned.
+//! `new` and `context` may allocate, and each text allocates its own memory. `is` and the downcasts visit each link at
+//! most once, the newest first; `chain`, `root_cause`, `from_oom` and all calls on a value don't allocate.
 //!
-//! **What it costs.** Links lie in one list, the root first: `context` pushes, in amortised constant time, and no link is
-//! cloned. `new` and `context` may ask for memory, and each text for its own. `is` and the downcasts look at each link
-//! once, the newest first; `chain`, `root_cause`, `from_oom` and all calls on a value take no memory.
-//!
-//! **On want of memory.** `new`, `msg` and `context` answer an error of want of memory, and the links are dropped.
-//! `is_oom` tells it from the others, and `root_cause` has its size. The texts answer `OutOfMemory` themselves and leave
-//! the error as it was: free some memory and ask again, or write nothing but the Display text of want of memory, which
-//! asks for none.
+//! **Out of memory.** `new`, `msg` and `context` return an error that is out of memory, and the links are dropped.
+//! `is_oom` tells it from the others, and `root_cause` has its size. The texts return `OutOfMemory` themselves and leave
+//! the error as it was: free some memory and ask again, or print `root_cause`, which allocates nothing.
 #![tactic(auto)]
 
 #[cfg(test)]

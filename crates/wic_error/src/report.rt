@@ -12,7 +12,7 @@ use wic_base::OutOfMemory;
 use wic_vec::TryString;
 
 impl<K: Kind> Error<K> {
-    /// The text of the first item: of the newest context, or of the want of memory that this error is.
+    /// The text of the first item: of the newest context, or of the out of memory that this error is.
     ///
     /// It stands for `{}` of `Error`.
     pub fn first_text(&self, alloc: Global) -> Result<TryString, OutOfMemory>
@@ -36,7 +36,7 @@ impl<K: Kind> Error<K> {
         Ok(text)
     }
 
-    /// The first text, and where there are further items a heading and a line for each: a single one behind four
+    /// The first text, and if there are further items a heading and a line for each: a single one behind four
     /// blanks, several with their number from 0, right-aligned in five places.
     ///
     /// It stands for `{:?}` of `Error`, with no backtrace.
@@ -55,7 +55,8 @@ impl<K: Kind> Error<K> {
 
     /// The links before the newest, the root first.
     fn causes(&self) -> &[K]
-        ensures texts { (newest : List ℕ) × (texts_of K.text self.now ≡ newest ∷ map K.text (reverse result.now)) }
+        ensures texts { (newest : List ℕ)
+            × (texts_of K.text self.now ≡ newest ∷ map K.text (reverse result.now)) }
     {
         match self.repr.links().split_last() {
             Some((_, causes)) => causes,
@@ -80,7 +81,8 @@ fn push_joined<K: Kind>(causes: &[K], text: &mut TryString) -> Result<(), OutOfM
 
 /// Puts the lines of these links at the end, the last first.
 fn push_causes<K: Kind>(causes: &[K], text: &mut TryString) -> Result<(), OutOfMemory>
-    ensures lines { OnOk result (text.new.bytes ≡ text.old.bytes ++ cause_lines (map K.text (reverse causes.now))) }
+    ensures lines { OnOk result (text.new.bytes
+        ≡ text.old.bytes ++ cause_lines (map K.text (reverse causes.now))) }
 {
     match causes {
         [root] => {
@@ -94,7 +96,8 @@ fn push_causes<K: Kind>(causes: &[K], text: &mut TryString) -> Result<(), OutOfM
 
 /// Puts the lines of these links at the end, the last first, numbered from 0.
 fn push_numbered<K: Kind>(causes: &[K], text: &mut TryString) -> Result<(), OutOfMemory>
-    ensures lines { OnOk result (text.new.bytes ≡ text.old.bytes ++ numbered_lines 0 (map K.text (reverse causes.now))) }
+    ensures lines { OnOk result (text.new.bytes
+        ≡ text.old.bytes ++ numbered_lines 0 (map K.text (reverse causes.now))) }
 {
     let mut rest = causes;
     while let Some((cause, older)) = rest.split_last() {
@@ -108,7 +111,8 @@ fn push_numbered<K: Kind>(causes: &[K], text: &mut TryString) -> Result<(), OutO
 
 /// Puts a number at the end, right-aligned in five places, and a colon and a space.
 fn push_number(number: usize, text: &mut TryString) -> Result<(), OutOfMemory>
-    ensures number { OnOk result (text.new.bytes ≡ text.old.bytes ++ in_five_places number ++ codes ": ") }
+    ensures number { OnOk result (text.new.bytes
+        ≡ text.old.bytes ++ in_five_places number ++ codes ": ") }
 {
     text.push_str(blanks_before(number))?;
     text.push_decimal(number as u64)?;

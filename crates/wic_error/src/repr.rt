@@ -8,7 +8,7 @@ use crate::kind::Kind;
 use wic_base::OutOfMemory;
 use wic_vec::TryVec;
 
-/// Want of memory, or the links.
+/// Out of memory, or the links.
 #[derive(Drop)]
 pub(crate) enum Repr<K> {
     Oom(OutOfMemory),
@@ -30,7 +30,7 @@ impl<K> Repr<K> {
         }
     }
 
-    /// The want of memory.
+    /// The out of memory, if it is one.
     pub(crate) fn oom(&self) -> Option<OutOfMemory>
         ensures wanted { result ≡ oom_of self.now }
     {

@@ -1,6 +1,9 @@
+ghost use Rattle.std.specs.Prelude.{Some};
+
 use super::*;
-use crate::callers::launch;
+use crate::callers::{launch, tells};
 use std::alloc::Global;
+use std::fmt;
 use std::test::Fail;
 use wic_base::OutOfMemory;
 use wic_vec::TryString;
@@ -23,6 +26,14 @@ impl Kind for Said {
 
     fn push_text(&self, out: &mut TryString) -> Result<(), OutOfMemory> {
         out.push_str(self.text)
+    }
+}
+
+impl fmt::Display for Said {
+    ghost output = { λ said. Some said.text.now };
+
+    fn fmt<W: fmt::Write>(&self, f: &mut fmt::Formatter<W>) -> fmt::Result {
+        f.write_str(self.text)
     }
 }
 
@@ -52,14 +63,10 @@ fn an_error_has_three_texts(rt: HostRuntime) -> Result<(), Fail> {
             "failed to reticulate splines\n\nCaused by:\n    root cause\n",
         ),
         (
-            chain_of(
-                alloc,
-                "root cause",
-                &["failed to reticulate splines", "aborting launch"],
-            ),
-            "aborting launch",
-            "aborting launch: failed to reticulate splines: root cause",
-            "aborting launch\n\nCaused by:\n    0: failed to reticulate splines\n    1: root cause\n",
+            chain_of(alloc, "ouch", &["whoops", "uh oh"]),
+            "uh oh",
+            "uh oh: whoops: ouch",
+            "uh oh\n\nCaused by:\n    0: whoops\n    1: ouch\n",
         ),
         (
             Error::from_oom(OutOfMemory::new(8192)).context(alloc, link(2, "whoops")),
@@ -92,7 +99,7 @@ fn links_are_found_by_their_number(rt: HostRuntime) -> Result<(), Fail> {
         alloc,
         link(1, "failed to recombobulate"),
     );
-    assert!(rt; error.is(1) && !error.is(9));
+    assert!(rt; error.is(1) && !tells(&error, 9));
     let first = error.downcast_ref(1);
     assert!(rt; first.is_some_and(|link| link.text == "failed to recombobulate"));
     assert!(rt; error.downcast_ref(9).is_none());
@@ -109,6 +116,30 @@ fn links_are_found_by_their_number(rt: HostRuntime) -> Result<(), Fail> {
     assert_eq!(rt; error.line(alloc)?.as_str(), "yikes: root cause");
     let first = error.downcast(1).ok();
     assert!(rt; first.is_some_and(|link| link.text == "yikes"));
+    Ok(())
+}
+
+#[test]
+fn a_link_is_written_in_place(rt: HostRuntime) -> Result<(), Fail> {
+    let alloc = rt.alloc();
+    let mut error = Error::new(alloc, link(1, "whoops"));
+    if let Some(link) = error.downcast_mut(1) {
+        link.text = "yikes";
+    }
+    assert_eq!(rt; error.first_text(alloc)?.as_str(), "yikes");
+    Ok(())
+}
+
+#[test]
+fn items_print_themselves(rt: HostRuntime) -> Result<(), Fail> {
+    let alloc = rt.alloc();
+    let error = chain_of(alloc, "ouch", &["whoops"]);
+    let oom: Error<Said> = Error::from_oom(OutOfMemory::new(5));
+    let shown = format!(in alloc; "{} / {}", error.root_cause(), oom.root_cause())?;
+    assert_eq!(rt;
+        shown.as_str(),
+        "ouch / out of memory (failed to allocate 5 bytes)"
+    );
     Ok(())
 }
 
@@ -148,18 +179,52 @@ fn what_has_no_value_gets_a_context(rt: HostRuntime) -> Result<(), Fail> {
     ] {
         assert_eq!(rt; line_of(alloc, answer)?.as_str(), line);
     }
-    for answer in [
-        Some(3).with_context(alloc, || whoops),
-        result_with_context(alloc, Ok(3), || whoops),
-        ok(3),
-    ] {
-        assert!(rt; answer.is_ok_and(|value| value == 3));
-    }
     Ok(())
 }
 
 #[test]
-fn want_of_memory_stays_the_same_error(rt: HostRuntime) -> Result<(), Fail> {
+fn a_value_gets_no_context_and_no_call(rt: HostRuntime) -> Result<(), Fail> {
+    let alloc = rt.alloc();
+    let mut calls = 0u32;
+    let three: Result<u8, Error<Said>> = Some(3).with_context(alloc, || {
+        calls = calls.wrapping_add(1);
+        link(2, "whoops")
+    });
+    assert!(rt; three.is_ok_and(|value| value == 3));
+    let four: Result<u8, Error<Said>> = result_with_context(alloc, Ok(4), || {
+        calls = calls.wrapping_add(1);
+        link(2, "whoops")
+    });
+    assert!(rt; four.is_ok_and(|value| value == 4));
+    assert_eq!(rt; calls, 0);
+    let five: Result<u8, Error<Said>> = ok(5);
+    assert!(rt; five.is_ok_and(|value| value == 5));
+    Ok(())
+}
+
+// The size of an item that is out of memory.
+fn size_of_item(item: &ChainItem<'_, Said>) -> Option<usize> {
+    match item {
+        ChainItem::Oom(oom) => Some(oom.requested_allocation_size()),
+        ChainItem::Link(_) => None,
+    }
+}
+
+#[test]
+fn out_of_memory_is_its_one_item(rt: HostRuntime) -> Result<(), Fail> {
+    let error: Error<Said> = Error::from_oom(OutOfMemory::new(5));
+    let mut chain = error.chain();
+    let first = chain.next();
+    assert_eq!(rt; first.as_ref().and_then(|item| size_of_item(item)), Some(5));
+    assert!(rt; chain.next().is_none());
+    assert_eq!(rt; size_of_item(&error.root_cause()), Some(5));
+    let error = chain_of(rt.alloc(), "ouch", &["whoops"]);
+    assert!(rt; matches!(error.root_cause(), ChainItem::Link(root) if root.number == 1));
+    Ok(())
+}
+
+#[test]
+fn out_of_memory_stays_the_same_error(rt: HostRuntime) -> Result<(), Fail> {
     let alloc = rt.alloc();
     let error: Error<Said> = Error::from(OutOfMemory::new(5));
     assert!(rt; error.is_oom() && !error.is(1));
@@ -190,7 +255,7 @@ fn a_caller_tells_all_of_it(rt: HostRuntime) -> Result<(), Fail> {
     Ok(())
 }
 
-// The line of an answer that is no value.
+// The line of a result that is no value.
 fn line_of<T: Drop, K: Kind + Drop>(
     alloc: Global,
     answer: Result<T, Error<K>>,
