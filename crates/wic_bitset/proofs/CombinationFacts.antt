@@ -296,40 +296,6 @@ pub difference_is : (s t r : FinSet nat_cmp) → ((i : ℕ) → contains r i ≡
     → r ≡ difference s t
 difference_is s t r each = same_members _ _ (λ i. each i ∙ sym (contains-difference nat_cmp_total s t i))
 
--- a set that has all of s has changed exactly if it has more
-pub change_is_more : (s r : FinSet nat_cmp) (b : Bool) → ((i : ℕ) → contains s i ≡ true → contains r i ≡ true) → TellsChange b s r
-    → IsTrue b ↔ HasMore s r
-change_is_more s r true all change = (λ _. more (contains s change.0) refl, λ _. refl)
-  where
-    more : (a : Bool) → contains s change.0 ≡ a → HasMore s r
-    more true has = absurd (let yes = all change.0 has in let no = change.1 ∙ ap not has in cc)
-    more false has = (change.0, (has, change.1 ∙ ap not has))
-change_is_more s r false all same =
-    (λ no. absurd (cc), λ found. absurd (let now = sym (ap (λ x. contains x found.0) same) ∙ found.1.1 in let was = found.1.0 in cc))
-
--- a set of which all were in s has changed exactly if it has less
-pub change_is_less : (s r : FinSet nat_cmp) (b : Bool) → ((i : ℕ) → contains r i ≡ true → contains s i ≡ true) → TellsChange b s r
-    → IsTrue b ↔ HasMore r s
-change_is_less s r true all change = (λ _. less (contains s change.0) refl, λ _. refl)
-  where
-    less : (a : Bool) → contains s change.0 ≡ a → HasMore r s
-    less true has = (change.0, (change.1 ∙ ap not has, has))
-    less false has = absurd (let yes = all change.0 (change.1 ∙ ap not has) in cc)
-change_is_less s r false all same =
-    (λ no. absurd (cc), λ found. absurd (let now = ap (λ x. contains x found.0) same ∙ found.1.1 in let was = found.1.0 in cc))
-
--- false exactly if the set is as before
-pub tells_same : (s t : FinSet nat_cmp) (r : Bool) → TellsChange r s t → (r ≡ false) ↔ (t ≡ s)
-tells_same s t true change = (
-  λ no. absurd (cc),
-  λ same. absurd (let now = ap (λ u. contains u change.0) same in let other = change.1 in not_itself (contains s change.0) (sym now ∙ other)),
-)
-  where
-    not_itself : (b : Bool) → b ≡ not b → ⊥
-    not_itself true same = absurd (cc)
-    not_itself false same = absurd (cc)
-tells_same s t false same = (λ _. same, λ _. refl)
-
 -- the greatest member is one number
 pub greatest_is_one : (s : FinSet nat_cmp) (x y : ℕ) → IsGreatest s x → IsGreatest s y → x ≡ y
 greatest_is_one s x y one other =

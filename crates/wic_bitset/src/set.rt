@@ -113,8 +113,7 @@ impl<T: ScalarBitSetStorage> CompoundBitSet<T> {
     /// Makes room for the numbers below `n`, as `try_ensure_capacity` does.
     pub fn ensure_capacity(&mut self, n: usize) -> Result<(), OutOfMemory>
         requires within { n ≤ 4294967296 }
-        ensures room {
-            MakesRoomFor (λ s. s.members) (capacity_of T.width) n self.old self.new result }
+        ensures room { MakesRoomFor (λ s. s.members) (capacity_of T.width) n self.old self.new result }
         ensures words { OnOk result (self.new.words ≡ count_for T.width self.old.words n) }
     {
         self.try_ensure_capacity(n)
@@ -125,8 +124,7 @@ impl<T: ScalarBitSetStorage> CompoundBitSet<T> {
     /// before, where the original loses the members.
     pub fn try_ensure_capacity(&mut self, n: usize) -> Result<(), OutOfMemory>
         requires within { n ≤ 4294967296 }
-        ensures room {
-            MakesRoomFor (λ s. s.members) (capacity_of T.width) n self.old self.new result }
+        ensures room { MakesRoomFor (λ s. s.members) (capacity_of T.width) n self.old self.new result }
         ensures words { OnOk result (self.new.words ≡ count_for T.width self.old.words n) }
     {
         if n == 0 {

@@ -92,26 +92,26 @@ fn a_new_set_has_no_room_and_grows_as_numbers_come(rt: HostRuntime) -> Result<()
     Ok(())
 }
 
-// What `max` and then `pop` return, once more than there are members.
-fn popped(alloc: Global, numbers: &[u32]) -> Result<Vec<(Option<usize>, Option<usize>)>, Fail> {
+// What `pop` returns, once more than there are members, and whether `max` said so before each.
+fn popped(alloc: Global, numbers: &[u32]) -> Result<(Vec<Option<usize>>, bool), Fail> {
     let mut set = set_of::<u64>(alloc, numbers)?;
-    let mut answers = Vec::new(alloc);
+    let mut members = Vec::new(alloc);
+    let mut same = true;
     for _ in 0..=numbers.len() {
         let max = set.max();
-        answers.push((max, set.pop()))?;
+        let popped = set.pop();
+        same &= max == popped;
+        members.push(popped)?;
     }
-    Ok(answers)
+    Ok((members, same))
 }
 
 #[test]
 fn the_greatest_is_taken_out_first(rt: HostRuntime) -> Result<(), Fail> {
-    let answers = popped(rt.alloc(), &[111, 222, 333, 444, 555])?;
-    let mut expected = [Some(555), Some(444), Some(333), Some(222), Some(111), None].iter();
-    for (max, popped) in &answers {
-        assert_eq!(rt; max, popped);
-        assert_eq!(rt; Some(max), expected.next());
-    }
-    assert!(rt; expected.next().is_none());
+    let (members, same) = popped(rt.alloc(), &[111, 222, 333, 444, 555])?;
+    let expected = [Some(555), Some(444), Some(333), Some(222), Some(111), None];
+    assert_eq!(rt; members.as_slice(), expected.as_slice());
+    assert!(rt; same);
     Ok(())
 }
 
