@@ -1,5 +1,5 @@
 //! Callers of the program, proved from its contract alone.
-ghost use Rattle.std.specs.Prelude.{◌≡◌, ◌≢◌, ◌⊎◌, ◌≤◌, ◌∷◌, ℕ, List, [], length, Some, IfOk};
+ghost use Rattle.std.specs.Prelude.{◌≡◌, ◌≢◌, ◌⊎◌, ◌≤◌, ◌∷◌, ℕ, List, [], codes, length, Some, IfOk};
 ghost use Rattle.batch_script.specs.Device.{HasFaults, use_of};
 ghost use Rattle.batch_script.specs.Grammar.{IsScript, IsScriptOf};
 ghost use Rattle.batch_script.specs.Headline.{RunsWhole, WantsMemory};
@@ -12,9 +12,11 @@ ghost use Rattle.batch_script.specs.declared.program.TheConstants.{INPUT_LIMIT};
 use crate::device::{Sink, Source};
 use crate::memory_device::{MemSink, MemSource};
 use crate::program::{Status, top};
+use crate::reply::push_contents;
+use batch_core::{Cause, Command, Workspace};
 use std::alloc::Global;
 use wic_base::OutOfMemory;
-use wic_vec::TryVec;
+use wic_vec::{TryString, TryVec};
 
 /// The replies of a script that lies in memory, in a sink of this room. If the room is enough for the text of each run, the sink
 /// holds the whole text of one run, or the line of out of memory: no read and no write fails.
@@ -48,4 +50,19 @@ pub fn serve_script<S: Source, K: Sink>(alloc: Global, source: &mut S, sink: &mu
         → result ≢ Status.ReadFault }
 {
     top(alloc, &TryVec::new(alloc), source, sink)
+}
+
+/// Puts in a member, holds a value, and shows both: the text is known, letter by letter.
+pub fn show_two(alloc: Global) -> Result<TryString, Cause>
+    ensures shown { IfOk result
+        (λ text. text.bytes ≡ codes "list\nset 3\ntable 0=5\nnext 1\n") }
+{
+    let mut workspace = Workspace::new(alloc);
+    workspace.step(Command::Insert(3))?;
+    workspace.step(Command::Alloc(5))?;
+    let mut text = TryString::new(alloc);
+    match push_contents(&mut text, &workspace) {
+        Ok(()) => Ok(text),
+        Err(oom) => Err(Cause::Oom(oom)),
+    }
 }

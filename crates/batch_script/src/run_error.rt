@@ -1,4 +1,4 @@
-//! Why a script isn't run.
+//! Why a script was not run to its end.
 use wic_base::OutOfMemory;
 
 /// Why a script was not run to its end.
