@@ -8,6 +8,8 @@ mod generated;
 #[cfg(test)]
 mod guard;
 #[cfg(test)]
+mod parts;
+#[cfg(test)]
 mod program;
 #[cfg(test)]
 mod scripts;

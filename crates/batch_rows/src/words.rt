@@ -35,7 +35,14 @@ fn a_generated_run_is_answered_by_its_summary_and_nothing_is_read(
     rt: HostRuntime,
 ) -> Result<(), Fail> {
     for seed in ["0", "1", "18446744073709551615"] {
-        let answer = run_in_room(rt.alloc(), 100, &["gen", seed, "0"], b"no script", &[1], &[])?;
+        let answer = run_in_room(
+            rt.alloc(),
+            100,
+            &["gen", seed, "0"],
+            b"no script",
+            &[1],
+            &[],
+        )?;
         assert_eq!(rt; answer.status, Status::Done, "at {seed:?}");
         assert_eq!(rt;
             answer.sink.bytes(),

@@ -1,5 +1,5 @@
 -- Where no call of the devices in memory is listed as failing and there is room enough, no fault is counted.
-use Rattle.std.proofs.Common.{◌≡◌, ◌≢◌, ◌∙◌, ℕ, ◌≤◌, ◌<◌, List, [], ◌∷◌, length, refl, ap, sym, subst, inl, inr, arith, Option, Some}
+use Rattle.std.proofs.Common.{◌≡◌, ◌≢◌, ◌∙◌, ℕ, ◌≤◌, ◌<◌, List, [], ◌∷◌, length, refl, ap, sym, subst, inl, inr, arith, Some}
 use Rattle.std.proofs.lemmas.List.{length-append}
 use Rattle.wic_vec.specs.TryString.{TryString}
 use Rattle.batch_script.specs.Device.{Use, AtMost, HasFaults, use_of}
@@ -11,7 +11,8 @@ use Rattle.batch_script.specs.Status.{CallsFor, Finishes, IsAmong, Offers}
 use Rattle.batch_script.specs.declared.program.Status.{Status}
 use Rattle.batch_script.specs.declared.program.Status.TheVariants.{Done, Oom, ReadFault, WriteFault}
 use Rattle.batch_script.specs.declared.program.TheConstants.{INPUT_LIMIT}
-use Rattle.batch_script.proofs.StatusFacts.{batch_sound, calls_among, replies_of, some_told}
+use Rattle.batch_script.specs.ProgramLaws.{batch_sound}
+use Rattle.batch_script.proofs.StatusFacts.{calls_among, replies_of, some_told}
 
 -- what a script calls for has room if no read failed
 pub script_has_room : (source sink : Use) (status : Status) (input text : List ℕ) (words : List TryString) (room : ℕ)

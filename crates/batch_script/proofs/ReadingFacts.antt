@@ -1,7 +1,7 @@
 -- What a line does to what was read, and where reading stops.
 use Rattle.std.proofs.Common.{◌≡◌, ◌≢◌, ℕ, ◌+◌, ◌<◌, ◌≤◌, List, [], ◌∷◌, ◌++◌, length, take, drop, map, refl, sym, ap, ◌∙◌, subst}
 use Rattle.std.proofs.Common.{inl, inr, arith, append_assoc, length-drop, take-take, Option, Some, None}
-use Rattle.std.specs.Prelude.{codes}
+use Rattle.std.specs.Prelude.{codes, IsSome, option_map}
 use Rattle.std.proofs.lemmas.List.{take-append-drop, append-nil, drop-drop, map-append}
 use Rattle.std.proofs.lemmas.List.Concat.{flat_map-append}
 use Rattle.std.proofs.Math.Seq.{take-add}
@@ -83,9 +83,10 @@ stuck_outside items lines line was never opened =
     never (starts_item line opened.1 more.0 more.2 more.1)
 
 -- in a batch only a command or its end goes on
-pub stuck_in_batch : (items : List PlainItem) (commands : List (Command ℕ)) (lines : List Line) (line : Line)
-    → AreRead items (Some commands) lines → ¬ GoesOn line → IsOpen (lines ++ line ∷ []) → ⊥
-stuck_in_batch items commands lines line was never opened =
+pub stuck_in_batch : (items : List PlainItem) (begun : Option (List (Command ℕ))) (lines : List Line) (line : Line) → IsSome begun
+    → AreRead items begun lines → ¬ GoesOn line → IsOpen (lines ++ line ∷ []) → ⊥
+stuck_in_batch items None lines line some was never opened = absurd (cc)
+stuck_in_batch items (Some commands) lines line some was never opened =
     let apart : all_lines items ++ ((codes "begin" ∷ map command_line commands) ++ line ∷ opened.1) ≡ all_lines opened.0 =
     simp (was.same, append_assoc) at opened.3 in
     let more = rest-after_items items opened.0 ((codes "begin" ∷ map command_line commands) ++ line ∷ opened.1) was.valid_items opened.2
@@ -117,11 +118,15 @@ none_starts line never starts =
     never (first_word starts.0) (first_numbers starts.0) parts.1
     (subst (λ l. HasParts l (first_word starts.0) (first_numbers starts.0)) (sym starts.2) parts.0)
 
--- a line that is no word with up to two numbers is no command and ends no batch
+-- a line that is no word with up to two numbers is no command
+pub none_is_command : (line : Line) → HasNoParts line → (command : Command ℕ) → IsValidCommand command → line ≢ command_line command
+none_is_command line never command valid same =
+    never (word_of command) (numbers_of command) (few_numbers command)
+    (record { is_word = (command_word command).0; writable = valid; same = same })
+
+-- nor does it end a batch
 pub none_goes_on : (line : Line) → HasNoParts line → ¬ GoesOn line
-none_goes_on line never (inl one) =
-    never (word_of one.0) (numbers_of one.0) (few_numbers one.0)
-    (record { is_word = (command_word one.0).0; writable = one.1; same = one.2 })
+none_goes_on line never (inl one) = none_is_command line never one.0 one.1 one.2
 none_goes_on line never (inr one) =
     never (end_line one.0) [] (omega arith) (record { is_word = (end_word one.0).0; writable = tt; same = one.1 })
 
@@ -134,23 +139,34 @@ parts_start_none line word numbers has never starts =
     (sym starts.2 ∙ has.same) in
     never starts.0 same.1 same.0
 
+-- a line of a word and numbers that are no command's
+pub parts_are_no_command : (line word numbers : List ℕ) → HasParts line word numbers
+    → ((command : Command ℕ) → numbers_of command ≡ numbers → word_of command ≢ word)
+    → (command : Command ℕ) → IsValidCommand command → line ≢ command_line command
+parts_are_no_command line word numbers has never command valid is =
+    let same = same_line (word_of command) word (numbers_of command) numbers (command_word command).0 has.is_word valid has.writable
+    (sym is ∙ has.same) in
+    never command same.1 same.0
+
 -- a word and numbers that are no command and end no batch
 pub parts_go_on_nowhere : (line word numbers : List ℕ) → HasParts line word numbers
     → ((command : Command ℕ) → numbers_of command ≡ numbers → word_of command ≢ word)
     → ((ending : End) → numbers ≡ [] → end_line ending ≢ word) → ¬ GoesOn line
-parts_go_on_nowhere line word numbers has never nor (inl one) =
-    let same = same_line (word_of one.0) word (numbers_of one.0) numbers (command_word one.0).0 has.is_word one.1 has.writable
-    (sym one.2 ∙ has.same) in
-    never one.0 same.1 same.0
+parts_go_on_nowhere line word numbers has never nor (inl one) = parts_are_no_command line word numbers has never one.0 one.1 one.2
 parts_go_on_nowhere line word numbers has never nor (inr one) =
     let same = same_line (end_line one.0) word [] numbers (end_word one.0).0 has.is_word tt has.writable (sym one.1 ∙ has.same) in
     nor one.0 (sym same.1) same.0
 
--- a batch that has begun and not ended is no script
-pub begun-IsScript : (items : List PlainItem) (commands : List (Command ℕ)) (input : List ℕ)
-    → AreRead items (Some commands) (lines_of input)
-    → IsScript input → ⊥
-begun-IsScript items commands input was script =
+-- what is made of a value that is there is there
+pub some_mapped : {A B : Type 0} (f : A → B) (o : Option A) → IsSome o → IsSome (option_map f o)
+some_mapped f None some = absurd (cc)
+some_mapped f (Some value) some = refl
+
+-- with a batch that has begun and not ended the input is no script
+pub begun-IsScript : (items : List PlainItem) (begun : Option (List (Command ℕ))) (input : List ℕ) → IsSome begun
+    → AreRead items begun (lines_of input) → IsScript input → ⊥
+begun-IsScript items None input some was script = absurd (cc)
+begun-IsScript items (Some commands) input some was script =
     let apart : all_lines items ++ (codes "begin" ∷ map command_line commands) ≡ all_lines script.0 = sym was.same ∙ script.1.lines in
     let more = rest-after_items items script.0 (codes "begin" ∷ map command_line commands) was.valid_items script.1.valid apart in
     begun_is_no_script commands more.0 was.valid_open more.1
@@ -230,4 +246,5 @@ pub stuck_with_none : (items : List PlainItem) (begun : Option (List (Command �
     → AreRead items begun lines
     → HasNoParts line → IsOpen (lines ++ line ∷ []) → ⊥
 stuck_with_none items None lines line was never = stuck_outside items lines line was (none_starts line never)
-stuck_with_none items (Some commands) lines line was never = stuck_in_batch items commands lines line was (none_goes_on line never)
+stuck_with_none items (Some commands) lines line was never =
+    stuck_in_batch items (Some commands) lines line refl was (none_goes_on line never)

@@ -4,14 +4,14 @@ use Rattle.std.specs.Prelude.{codes}
 use Rattle.std.specs.Fmt.{digits}
 use Rattle.std.specs.FinMap.{empty, insert}
 use Rattle.std.specs.FinSet.{empty as no_members, insert as with_member}
-use Rattle.wic_bitset.specs.Rising.{rising}
 use Rattle.batch_core.specs.State.{empty_state, no_contents}
-use Rattle.batch_core.specs.declared.command.Command.TheVariants.{Alloc, Push, Pop, Set, Insert, Remove, Truncate}
+use Rattle.batch_core.specs.declared.command.Command.TheVariants.{Push, Pop, Set, Insert, Remove, Truncate}
 use Rattle.batch_core.specs.declared.command.End.TheVariants.{Commit, Abort}
 use Rattle.batch_script.specs.Machine.{PlainItem, Run, reserve, show, batch, no_memory, plain_step, shown_of}
 use Rattle.batch_script.specs.Generated.{draw, drawn_command, generated}
 use Rattle.batch_script.specs.Grammar.{Line, command_line, lines_of, all_lines}
 use Rattle.batch_script.specs.Reply.{reply_lines}
+use Rattle.batch_script.proofs.ShownFacts.{shows}
 
 -- the lines of the reply to an item on its own, where memory is found
 abbrev replied : PlainItem → List Line
@@ -65,19 +65,14 @@ no_such_room = refl
 greatest_room : replied (reserve 4294967294) ≡ codes "reserved" ∷ []
 greatest_room = refl
 
--- contents that are known are shown by computing, also those that a batch leaves
+-- contents that are known are shown by computing
 few_are_shown : reply_lines (shown_of (record no_contents {
   list = 7 ∷ [];
   set = with_member (with_member no_members 9) 3;
   live = insert (insert empty 1 12) 0 5;
 })) ≡ codes "list 7" ∷ codes "set 3 9" ∷ codes "table 0=5 1=12" ∷ codes "next 0" ∷ []
-unfolding rising digits
-few_are_shown = refl
-
-shown_after_a_batch : reply_lines (plain_step (plain_step empty_state (batch (Insert 9 ∷ Insert 3 ∷ Alloc 5 ∷ Alloc 12 ∷ []) Commit)).1
-    show).0 ≡ codes "list" ∷ codes "set 3 9" ∷ codes "table 0=5 1=12" ∷ codes "next 2" ∷ []
-unfolding rising digits
-shown_after_a_batch = refl
+unfolding digits
+few_are_shown = simp shows
 
 -- a batch that doesn't fit the room may be refused for memory: with no room any but the empty one
 refused_for_memory : Run empty_state (batch (Push 7 ∷ []) Commit ∷ []) (no_memory ∷ [])

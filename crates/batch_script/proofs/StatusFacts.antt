@@ -1,5 +1,5 @@
 -- What follows from how the program came to its result.
-use Rattle.std.proofs.Common.{◌≡◌, ◌⊎◌, ◌≤◌, ◌<◌, ℕ, List, [], ◌∷◌, ◌++◌, length, map, refl, sym, ap, ◌∙◌, subst, inl, inr, arith, Option}
+use Rattle.std.proofs.Common.{◌≡◌, ◌⊎◌, ℕ, List, [], ◌∷◌, ◌++◌, map, refl, sym, ap, ◌∙◌, subst, inl, inr, arith, Option}
 use Rattle.std.proofs.Common.{Some}
 use Rattle.wic_vec.specs.TryString.{TryString}
 use Rattle.batch_core.specs.State.{empty_state}
@@ -11,13 +11,13 @@ use Rattle.batch_script.specs.Headline.{Premises, RunsWhole, WantsMemory}
 use Rattle.batch_script.specs.Machine.{PlainItem, Run}
 use Rattle.batch_script.specs.Program.{AsksForSummary, SummarizesRun, batch_meaning}
 use Rattle.batch_script.specs.RunText.{IsRunText}
-use Rattle.batch_script.specs.Status.{CallsFor, Concludes, EndsAmong, Finishes, IsAmong, Meaning, Offers, RepliesTo}
+use Rattle.batch_script.specs.ProgramLaws.{batch_sound, some_words}
+use Rattle.batch_script.specs.Status.{CallsFor, Concludes, EndsAmong, Finishes, IsAmong, IsMeaning, Meaning, RepliesTo}
 use Rattle.batch_script.specs.Summary.{summary_text}
 use Rattle.batch_script.specs.Words.{AsksForRun}
 use Rattle.batch_script.specs.declared.program.Answer.{Answer}
 use Rattle.batch_script.specs.declared.program.Status.{Status}
 use Rattle.batch_script.specs.declared.program.Status.TheVariants.{Done, Syntax, Oom, ReadFault, WriteFault, TooLong, Usage}
-use Rattle.batch_script.specs.declared.program.TheConstants.{INPUT_LIMIT}
 use Rattle.batch_script.proofs.ScriptFacts.{one_script}
 use Rattle.batch_script.proofs.WordFacts.{one_run}
 
@@ -26,13 +26,6 @@ pub some_told : (bytes input : List ℕ) → Some bytes ≡ Some input → bytes
 some_told bytes input same = cc
 
 -- ---- any program
-
--- words ask for one thing at most, and what is replied to is a script
-pub record IsMeaning (meaning : Meaning) : Type 0 where
-  pub reply_is_script : (input text : List ℕ) → meaning.is_reply input text → meaning.is_script input
-  pub some_for_text : (words : List TryString) (text : List ℕ) → words ≡ [] → ¬ meaning.asks_for_text words text
-  pub some_for_usage : (words : List TryString) → words ≡ [] → ¬ meaning.asks_for_usage words
-  pub text_or_usage : (words : List TryString) (text : List ℕ) → meaning.asks_for_text words text → ¬ meaning.asks_for_usage words
 
 module _ (meaning : Meaning) (sound : IsMeaning meaning) (words : List TryString) (source : Use) (text : List ℕ) where
   -- with no words the text that goes with status 0 replies to the input
@@ -178,21 +171,6 @@ two_left_unread first result sink (inr (inr (inr none))) write silent = absurd n
 
 -- ---- the program of batches
 
--- words that say numbers are some
-some_words : (words : List TryString) (seed count : ℕ) → words ≡ [] → ¬ AsksForRun words seed count
-some_words words seed count none asks =
-    let said = subst (λ (given : List TryString). AsksForRun given seed count) none asks in
-    let long = ap length said.said in omega arith
-
--- its words ask for one thing at most, and what it replies to is a script
-pub batch_sound : IsMeaning batch_meaning
-batch_sound = record {
-  reply_is_script = λ input text reply. (reply.0, reply.1);
-  some_for_text = λ words text none asks. some_words words asks.seed asks.count none asks.asks;
-  some_for_usage = λ words none usage. usage.0 none;
-  text_or_usage = λ words text asks usage. usage.1 asks.seed asks.count asks.asks;
-}
-
 -- the text of one run of the items
 runs : (result : Status) (written_after : Option (List ℕ)) (input held text : List ℕ) (items : List PlainItem) → result ≡ Done
     → IsRunText input text → IsScriptOf input items → written_after ≡ Some (held ++ text) → RunsWhole result written_after held items
@@ -282,24 +260,31 @@ summary_lem words source sink writes result how seed count held asks told quiet 
 pub of_read : (Fact : List ℕ → Type 0) (source : Use) (bytes : List ℕ) → ReadsAll source bytes → Fact bytes → OfTold source Fact
 of_read Fact source bytes reads holds = λ input told. subst Fact (reads.all input told) holds
 
--- what is called for with these words, this use of the source and this answer is called for with the same ones
-pub called_at : (words others : List TryString) (source used : Use) (answer made : Answer) → words ≡ others → source ≡ used
-    → answer ≡ made → CallsFor batch_meaning others used (status_of made) (text_of_answer batch_meaning.usage made)
-    → CallsFor batch_meaning words source (status_of answer) (text_of_answer batch_meaning.usage answer)
-called_at words others source used answer made same_words same_use same_answer called =
-    subst (λ w. CallsFor batch_meaning w source (status_of answer) (text_of_answer batch_meaning.usage answer)) (sym same_words)
-    (subst (λ s. CallsFor batch_meaning others s (status_of answer) (text_of_answer batch_meaning.usage answer)) (sym same_use)
-    (subst (λ a. CallsFor batch_meaning others used (status_of a) (text_of_answer batch_meaning.usage a)) (sym same_answer) called))
+module _ (meaning : Meaning) (words : List TryString) where
+  -- what is called for with this use of the source and this answer is called for with the same ones
+  pub called_at : (source used : Use) (answer made : Answer) → source ≡ used → answer ≡ made
+      → CallsFor meaning words used (status_of made) (text_of_answer meaning.usage made)
+      → CallsFor meaning words source (status_of answer) (text_of_answer meaning.usage answer)
+  called_at source used answer made same_use same_answer called =
+      subst (λ s. CallsFor meaning words s (status_of answer) (text_of_answer meaning.usage answer)) (sym same_use)
+      (subst (λ a. CallsFor meaning words used (status_of a) (text_of_answer meaning.usage a)) (sym same_answer) called)
 
--- how a call came to its result, by the answer that it wrote
-pub concludes_by : (words : List TryString) (source sink : Use) (writes : ℕ → Type 0) (result status : Status) (text : List ℕ)
-    (answer : Answer) → CallsFor batch_meaning words source (status_of answer) (text_of_answer batch_meaning.usage answer)
-    → status ≡ status_of answer → text ≡ text_of_answer batch_meaning.usage answer → Finishes text status sink writes result
-    → Concludes batch_meaning words source sink writes result
-concludes_by words source sink writes result status text answer called is tells finished = record {
-  status = status;
-  text = text;
-  called_for = subst (λ s. CallsFor batch_meaning words source s text) (sym is)
-      (subst (λ t. CallsFor batch_meaning words source (status_of answer) t) (sym tells) called);
-  finished = finished;
-}
+  -- what is called for without words
+  pub called_without : (source : Use) (answer : Answer) → words ≡ []
+      → CallsFor meaning [] source (status_of answer) (text_of_answer meaning.usage answer)
+      → CallsFor meaning words source (status_of answer) (text_of_answer meaning.usage answer)
+  called_without source answer none =
+      subst (λ w. CallsFor meaning w source (status_of answer) (text_of_answer meaning.usage answer)) (sym none)
+
+  -- how a call came to its result, by the answer that it wrote
+  pub concludes_by : (source sink : Use) (writes : ℕ → Type 0) (result status : Status) (text : List ℕ) (answer : Answer)
+      → CallsFor meaning words source (status_of answer) (text_of_answer meaning.usage answer)
+      → status ≡ status_of answer → text ≡ text_of_answer meaning.usage answer → Finishes text status sink writes result
+      → Concludes meaning words source sink writes result
+  concludes_by source sink writes result status text answer called is tells finished = record {
+    status = status;
+    text = text;
+    called_for = subst (λ s. CallsFor meaning words source s text) (sym is)
+        (subst (λ t. CallsFor meaning words source (status_of answer) t) (sym tells) called);
+    finished = finished;
+  }

@@ -1,14 +1,24 @@
--- What the program has to write before it writes, and how reading ends.
-use Rattle.std.specs.Prelude.{◌≡◌, ℕ, ◌<◌, ◌≤◌, List, [], length, codes, Some}
+-- What words ask for, what the program has to write, and how reading ends.
+use Rattle.std.specs.Prelude.{◌≡◌, ◌≢◌, ℕ, ◌<◌, ◌≤◌, List, [], length, codes, Some}
+use Rattle.wic_vec.specs.TryString.{TryString}
 use Rattle.batch_script.specs.Device.{Use, HasFaults, Keeps, OfTold}
-use Rattle.batch_script.specs.Status.{line_text}
+use Rattle.batch_script.specs.Status.{Meaning, line_text}
 use Rattle.batch_script.specs.declared.program.Answer.{Answer}
 use Rattle.batch_script.specs.declared.program.Answer.TheVariants as answer
+use Rattle.batch_script.specs.declared.program.Asked.{Asked}
+use Rattle.batch_script.specs.declared.program.Asked.TheVariants as asked
 use Rattle.batch_script.specs.declared.program.ReadEnd.{ReadEnd}
 use Rattle.batch_script.specs.declared.program.ReadEnd.TheVariants as end
 use Rattle.batch_script.specs.declared.program.Status.{Status}
 use Rattle.batch_script.specs.declared.program.Status.TheVariants as status
 use Rattle.batch_script.specs.declared.program.TheConstants.{INPUT_LIMIT}
+
+-- the words ask for this
+abbrev pub IsAsked : Meaning → List TryString → Asked → Type 0
+IsAsked meaning words asked.Script = words ≡ []
+IsAsked meaning words (asked.Text text) = meaning.asks_for_text words text.bytes
+IsAsked meaning words asked.OutOfMemory = (words ≢ []) × (¬ meaning.asks_for_usage words)
+IsAsked meaning words asked.Usage = meaning.asks_for_usage words
 
 -- the status of an answer
 abbrev pub status_of : Answer → Status

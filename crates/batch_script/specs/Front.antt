@@ -10,6 +10,10 @@ use Rattle.batch_script.specs.Reading.{HasNoParts, has_space}
 abbrev pub has_feed : List ℕ → Bool
 has_feed = list_any (nat_eq 10)
 
+-- there are bytes, and no line feed among them
+abbrev pub IsOneLine : List ℕ → Type 0
+IsOneLine line = (0 < length line) × (has_feed line ≡ false)
+
 -- no digit stands at the front
 abbrev pub HasNoDigitFirst : List ℕ → Type 0
 HasNoDigitFirst rest = 0 < length rest → ¬ IsInRange 48 57 (slice_index rest 0)

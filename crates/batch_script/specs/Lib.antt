@@ -11,6 +11,7 @@ pub mod Laws
 pub mod Machine
 pub mod MemoryDevice
 pub mod Program
+pub mod ProgramLaws
 pub mod Reading
 pub mod Refusal
 pub mod Reply

@@ -1,8 +1,7 @@
 -- What the parser has read so far, as plain items and lines.
-use Rattle.std.specs.Prelude.{⊤, ◌≡◌, ◌≢◌, ℕ, slice_index, ◌<◌, ◌≤◌, Bool, true, false, nat_eq, List, [], ◌∷◌, ◌++◌, length, map, codes}
-use Rattle.std.specs.Prelude.{Option, Some, None}
-use Rattle.std.specs.List.{AllByRecursion, list_any, join_with_byte}
-use Rattle.std.specs.Fmt.{decimal}
+use Rattle.std.specs.Prelude.{⊤, ◌≡◌, ◌≢◌, ℕ, slice_index, ◌<◌, ◌≤◌, Bool, false, nat_eq, List, [], ◌∷◌, ◌++◌, length, map, codes}
+use Rattle.std.specs.Prelude.{Option, Some, None, IsSome, option_map}
+use Rattle.std.specs.List.{AllByRecursion, list_any}
 use Rattle.batch_core.specs.declared.command.Command.{Command}
 use Rattle.batch_core.specs.declared.command.End.TheVariants.{Commit}
 use Rattle.batch_script.specs.declared.item.Item.{Item}
@@ -78,10 +77,9 @@ pub record AreRead (items : List PlainItem) (begun : Option (List (Command ℕ))
   pub valid_open : IsValidOpen begun
   pub same : lines ≡ all_lines items ++ open_lines begun
 
--- the batch that has begun, if there is one
-abbrev pub begun_of : Bool → List (Command ℕ) → Option (List (Command ℕ))
-begun_of true commands = Some commands
-begun_of false commands = None
+-- the commands of the batch that has begun, if there is one
+abbrev pub begun_in : Reading → Option (List (Command ℕ))
+begun_in reading = option_map (λ commands. commands.items) reading.begun
 
 -- an item that begins so
 abbrev pub started : Start → PlainItem
@@ -91,15 +89,15 @@ started StartsBatch = batch [] Commit
 
 -- the reading has taken these lines
 abbrev pub HasRead : Reading → List Line → Type 0
-HasRead reading lines = AreRead (plain_items reading.items.items) (begun_of reading.has_begun reading.commands.items) lines
+HasRead reading lines = AreRead (plain_items reading.items.items) (begun_in reading) lines
 
 -- so it has, and no batch has begun
 abbrev pub IsOutside : Reading → List Line → Type 0
-IsOutside reading lines = (reading.has_begun ≡ false) × AreRead (plain_items reading.items.items) None lines
+IsOutside reading lines = (reading.begun ≡ None) × AreRead (plain_items reading.items.items) None lines
 
 -- so it has, and a batch has begun
 abbrev pub IsInside : Reading → List Line → Type 0
-IsInside reading lines = (reading.has_begun ≡ true) × AreRead (plain_items reading.items.items) (Some reading.commands.items) lines
+IsInside reading lines = IsSome (begun_in reading) × HasRead reading lines
 
 -- where the reading had taken lines so, it takes a line of this word and these numbers behind them
 abbrev pub TakesLine : (Reading → List Line → Type 0) → Reading → Reading → List ℕ → List ℕ → Type 0

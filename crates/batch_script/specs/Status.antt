@@ -33,6 +33,13 @@ pub record Meaning : Type 1 where
   -- the line that says what can be asked for
   pub usage : List ℕ
 
+-- only scripts are replied to, and words ask for one thing at most
+pub record IsMeaning (meaning : Meaning) : Type 0 where
+  pub reply_is_script : (input text : List ℕ) → meaning.is_reply input text → meaning.is_script input
+  pub some_for_text : (words : List TryString) (text : List ℕ) → words ≡ [] → ¬ meaning.asks_for_text words text
+  pub some_for_usage : (words : List TryString) → words ≡ [] → ¬ meaning.asks_for_usage words
+  pub text_or_usage : (words : List TryString) (text : List ℕ) → meaning.asks_for_text words text → ¬ meaning.asks_for_usage words
+
 -- the text of one line
 abbrev pub line_text : List ℕ → List ℕ
 line_text line = text_of_lines (line ∷ [])

@@ -9,9 +9,10 @@ ghost use Rattle.batch_script.specs.Status.{IsAmong};
 ghost use Rattle.batch_script.specs.declared.program.Status.{Status};
 ghost use Rattle.batch_script.specs.declared.program.TheConstants.{INPUT_LIMIT};
 
+use crate::batches::top;
 use crate::device::{Sink, Source};
 use crate::memory_device::{MemSink, MemSource};
-use crate::program::{Status, top};
+use crate::program::Status;
 use crate::reply::push_contents;
 use batch_core::{Cause, Command, Workspace};
 use std::alloc::Global;

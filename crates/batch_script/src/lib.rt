@@ -22,7 +22,8 @@
 //! A caller that passes its own device gets whatever the `reaches` of that device states, with a bound on the reads and writes that
 //! moved bytes. No device is called again after a call of it failed, nor a source after its end: `can_call`.
 //!
-//! The text of `show` computes for known contents: unfold `rising` and `digits`, as `few_are_shown` in `proofs/Rows` does.
+//! The text of `show` computes for known contents, by `simp shows` of `proofs/ShownFacts` with `digits` unfolded, as in
+//! `few_are_shown` of `proofs/Rows`; the caller `show_two` has its text letter by letter.
 //!
 //! **What it does not protect against.** Nothing is written before the whole input was read and run. What a real file or terminal
 //! gives or takes is not proved, only what is done with the bytes that a source tells.
@@ -37,6 +38,7 @@
 //! split the script. A summary ends at the first item that finds no memory.
 #![tactic(auto)]
 
+mod batches;
 mod callers;
 mod device;
 mod generator;
@@ -54,14 +56,16 @@ mod runner;
 mod summarizer;
 mod words;
 
+pub use batches::{Batches, top};
 pub use device::{Device, Failed, Sink, Source};
 pub use generator::generate;
 pub use item::{Item, Script};
 pub use kind::BatchKind;
 pub use laws::{law_one_run, law_one_script, law_plain_run};
 pub use memory_device::{CountSink, MemSink, MemSource, PlainSource};
-pub use parser::parse;
-pub use program::{INPUT_LIMIT, Status, top};
+pub use parser::{parse, parse_command};
+pub use program::{Asked, INPUT_LIMIT, Program, ReadEnd, Status, read_input, serve, write_text};
+pub use reply::push_reply;
 pub use run_error::RunError;
 pub use runner::run;
 pub use summarizer::summary;

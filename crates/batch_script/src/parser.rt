@@ -1,9 +1,12 @@
 //! Reads a script: its lines one after the other, as commands and items.
-ghost use Rattle.std.specs.Prelude.{◌≡◌, ◌≢◌, ◌<◌, ◌∷◌, ◌++◌, ℕ, List, [], length, IfSome, IfNone, IfOk, IfErr, OnOk, MatchOption, Err};
+ghost use Rattle.std.specs.Prelude.{◌≡◌, ◌≢◌, ◌<◌, ◌↔◌, ◌∷◌, ◌++◌, ℕ, List, [], length, IsTrue};
+ghost use Rattle.std.specs.Prelude.{IfSome, IfNone, IfOk, IfErr, OnOk, MatchOption, Err};
 ghost use Rattle.batch_core.specs.declared.command.Command.{Command};
 ghost use Rattle.batch_core.specs.declared.command.End.{End};
 ghost use Rattle.batch_script.specs.Machine.{PlainItem};
-ghost use Rattle.batch_script.specs.Grammar.{Line, IsOpen, IsScriptOf, word_of, numbers_of, end_line, lines_of};
+ghost use Rattle.batch_script.specs.Grammar.{Line, IsOpen, IsScriptOf, IsValidCommand};
+ghost use Rattle.batch_script.specs.Grammar.{command_line, word_of, numbers_of, end_line, lines_of};
+ghost use Rattle.batch_script.specs.Front.{IsOneLine};
 ghost use Rattle.batch_script.specs.Reading.{first_word, first_numbers, listed, plain_items, started};
 ghost use Rattle.batch_script.specs.Refusal.{IsJustified};
 
@@ -12,7 +15,6 @@ use crate::line::{Numbers, read_line};
 use crate::run_error::RunError;
 use batch_core::{Batch, Command, End};
 use std::alloc::Global;
-use std::mem;
 use wic_base::OutOfMemory;
 use wic_vec::TryVec;
 
@@ -43,6 +45,27 @@ fn command_of(word: &[u8], numbers: Numbers) -> Option<Command<u64>>
             _ => None,
         },
     }
+}
+
+/// The command of this line, or `None` if the line is no command. A line is a word and its numbers in decimal, each behind one
+/// space, with no line feed. It is read twice at most, and nothing is allocated.
+pub fn parse_command(line: &[u8]) -> Option<Command<u64>>
+    ensures some { IfSome result (λ command. line.now ≡ command_line command) }
+    ensures none { IfNone result ((command : Command ℕ) → IsValidCommand command
+        → line.now ≢ command_line command) }
+{
+    if !is_one_line(line) {
+        return None;
+    }
+    let (word, numbers, _) = read_line(line)?;
+    command_of(word, numbers)
+}
+
+/// Whether there are bytes, and no line feed among them.
+fn is_one_line(line: &[u8]) -> bool
+    ensures { IsTrue result ↔ IsOneLine line.now }
+{
+    !line.is_empty() && !line.contains(&b'\n')
 }
 
 /// The end of a batch that is this word, with no numbers.
@@ -112,8 +135,7 @@ impl From<OutOfMemory> for LineRefusal {
 #[derive(Drop)]
 pub(crate) struct Reading {
     items: TryVec<Item>,
-    commands: TryVec<Command<u64>>,
-    has_begun: bool,
+    begun: Option<TryVec<Command<u64>>>,
 }
 
 impl Reading {
@@ -124,8 +146,7 @@ impl Reading {
     {
         Reading {
             items: TryVec::new(alloc),
-            commands: TryVec::new(alloc),
-            has_begun: false,
+            begun: None,
         }
     }
 
@@ -160,10 +181,12 @@ impl Reading {
         ensures syntax { result ≡ Err LineRefusal.Syntax
             → RefusesLine HasRead self.old word.now (listed numbers) }
     {
-        if self.has_begun {
-            self.take_in_batch(alloc, word, numbers)
-        } else {
-            self.take_outside(alloc, word, numbers)
+        match &mut self.begun {
+            None => self.take_outside(alloc, word, numbers),
+            Some(commands) => match command_of(word, numbers) {
+                Some(command) => Ok(commands.push(command)?),
+                None => self.take_end(word, numbers),
+            },
         }
     }
 
@@ -181,38 +204,27 @@ impl Reading {
         match start_of(word, numbers) {
             Some(Start::Reserve(number)) => self.items.push(Item::Reserve(number))?,
             Some(Start::Show) => self.items.push(Item::Show)?,
-            Some(Start::Begin) => {
-                self.commands = TryVec::new(alloc);
-                self.has_begun = true;
-            }
+            Some(Start::Begin) => self.begun = Some(TryVec::new(alloc)),
             None => return Err(LineRefusal::Syntax),
         }
         Ok(())
     }
 
-    /// Goes on by a line of this word and these numbers in a batch that has begun.
-    fn take_in_batch(
-        &mut self,
-        alloc: Global,
-        word: &[u8],
-        numbers: Numbers,
-    ) -> Result<(), LineRefusal>
+    /// Ends the batch that has begun by a line of this word and these numbers, which is no command.
+    fn take_end(&mut self, word: &[u8], numbers: Numbers) -> Result<(), LineRefusal>
+        requires no_command { (command : Command ℕ) → numbers_of command ≡ listed numbers
+            → word_of command ≢ word.now }
         ensures ok { OnOk result (TakesLine IsInside self.old self.new word.now (listed numbers)) }
         ensures syntax { result ≡ Err LineRefusal.Syntax
             → RefusesLine IsInside self.old word.now (listed numbers) }
     {
-        if let Some(command) = command_of(word, numbers) {
-            self.commands.push(command)?;
-            return Ok(());
+        let Some(end) = end_of(word, numbers) else {
+            return Err(LineRefusal::Syntax);
+        };
+        if let Some(commands) = self.begun.take() {
+            self.items.push(Item::Batch(Batch { commands, end }))?;
         }
-        match end_of(word, numbers) {
-            Some(end) => {
-                let commands = mem::replace(&mut self.commands, TryVec::new(alloc));
-                self.has_begun = false;
-                Ok(self.items.push(Item::Batch(Batch { commands, end }))?)
-            }
-            None => Err(LineRefusal::Syntax),
-        }
+        Ok(())
     }
 }
 
@@ -235,7 +247,7 @@ pub fn parse(alloc: Global, input: &[u8]) -> Result<Script, RunError>
             Err(LineRefusal::Oom) => return Err(RunError::Oom),
         };
     }
-    if reading.has_begun {
+    if reading.begun.is_some() {
         return Err(RunError::Syntax {
             line: line_number + 1,
         });

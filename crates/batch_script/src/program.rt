@@ -1,28 +1,15 @@
-//! The whole program, over any source and any sink.
-ghost use Rattle.std.specs.Prelude.{◌≡◌, ◌≢◌, ◌⊎◌, ◌+◌, ◌<◌, ◌≤◌, ◌++◌, ℕ, List, [], length, Some, IfOk, IfErr, OnOk, OnErr};
-ghost use Rattle.wic_vec.specs.TryString.{TryString as Word};
-ghost use Rattle.batch_script.specs.Answer.{IsReadEnd, ReadsAll, status_of, text_of_answer};
-ghost use Rattle.batch_script.specs.Device.{AtMost, HasFaults, Keeps, Use, use_of};
-ghost use Rattle.batch_script.specs.Grammar.{IsFaultLine, IsScript};
-ghost use Rattle.batch_script.specs.Generated.{generated};
-ghost use Rattle.batch_script.specs.Headline.{Premises, RunsWhole, WantsMemory};
-ghost use Rattle.batch_script.specs.Machine.{PlainItem};
-ghost use Rattle.batch_script.specs.Program.{SummarizesRun, batch_meaning};
-ghost use Rattle.batch_script.specs.Status.{CallsFor, Concludes, EndsAmong, Finishes, WritesFront, WritesWhole};
-ghost use Rattle.batch_script.specs.Summary.{summary_text};
-ghost use Rattle.batch_script.specs.Words.{AsksForRun};
-ghost use Rattle.batch_script.specs.declared.program.Status.{Status};
+//! Programs that reply to scripts, over any source and any sink.
+ghost use Rattle.std.specs.Prelude.{◌≡◌, ◌≢◌, ◌+◌, ◌<◌, ◌≤◌, ◌++◌, ℕ, List, [], length, IfOk, IfErr, OnOk, OnErr};
+ghost use Rattle.batch_script.specs.Answer.{IsAsked, IsReadEnd, ReadsAll, status_of, text_of_answer};
+ghost use Rattle.batch_script.specs.Device.{AtMost, Use, use_of};
+ghost use Rattle.batch_script.specs.Refusal.{IsJustifiedBy};
+ghost use Rattle.batch_script.specs.Status.{CallsFor, Concludes, EndsAmong, Finishes, IsMeaning};
+ghost use Rattle.batch_script.specs.Status.{Meaning, WritesFront, WritesWhole, line_text};
 ghost use Rattle.batch_script.specs.declared.program.TheConstants.{INPUT_LIMIT};
-ghost use Rattle.batch_script.specs.declared.words.TheConstants.{MOST_BATCHES};
 
 use crate::device::{Failed, Sink, Source};
-use crate::generator::generate;
 use crate::run_error::RunError;
-use crate::runner::run;
-use crate::summarizer::summary;
-use crate::words::{Wish, wish_of};
 use std::alloc::Global;
-use wic_base::OutOfMemory;
 use wic_vec::{TryString, TryVec};
 
 /// The most bytes that an input may have.
@@ -34,7 +21,7 @@ const PIECE: usize = 4096;
 /// How the program ended.
 #[derive(Clone, Copy, Debug, PartialEq, Eq)]
 pub enum Status {
-    /// The replies were written whole.
+    /// The replies, or a text that the words ask for, were written whole.
     Done,
     /// The input is no script.
     Syntax,
@@ -61,10 +48,46 @@ impl Status {
     }
 }
 
+/// What the words of the command line ask for.
+#[derive(Drop)]
+pub enum Asked {
+    /// Replies to the script that the source gives.
+    Script,
+    /// This text; nothing is read.
+    Text(TryString),
+    /// A text for which there was no memory.
+    OutOfMemory,
+    /// Nothing that there is.
+    Usage,
+}
+
+/// A program: what inputs and words mean to it, and how it runs an input.
+pub trait Program {
+    /// Which inputs are scripts, what replies to them, and what words ask for.
+    ghost meaning: { Meaning };
+
+    /// Only scripts are replied to, and words ask for one thing at most.
+    ghost sound: { IsMeaning meaning };
+
+    /// What these words ask for. A text that they ask for is made.
+    fn asked(alloc: Global, words: &TryVec<TryString>) -> Asked
+        ensures { IsAsked meaning words.now.items result };
+
+    /// The text that replies to a script, or why there is none.
+    fn run(alloc: Global, input: &[u8]) -> Result<TryString, RunError>
+        ensures text { IfOk result (λ text. meaning.is_reply input.now text.bytes) }
+        ensures refusal { IfErr result
+            (IsJustifiedBy meaning.is_script meaning.is_fault_line input.now) };
+
+    /// The line that says what can be asked for.
+    fn usage() -> &'static str
+        ensures line { result.now ≡ line_text meaning.usage };
+}
+
 /// What is to be written, and with which status.
 #[derive(Drop)]
 enum Answer {
-    /// The replies to a script, or the summary of a generated one.
+    /// The replies to a script, or a text that the words ask for.
     Done(TryString),
     /// The line that says where the input stops being a script.
     Syntax(TryString),
@@ -88,28 +111,35 @@ impl Answer {
         }
     }
 
-    fn text(&self) -> &str
-        ensures text { result.now ≡ text_of_answer batch_meaning.usage self.now }
+    fn text<P: Program>(&self) -> &str
+        ensures text { result.now ≡ text_of_answer P.meaning.usage self.now }
     {
         match self {
             Answer::Done(text) | Answer::Syntax(text) => text.as_str(),
             Answer::Oom => "error: out of memory\n",
             Answer::ReadFault => "error: read fault\n",
             Answer::TooLong => "error: input too long\n",
-            Answer::Usage => "usage: batch [gen SEED N]\n",
+            Answer::Usage => P::usage(),
         }
     }
 }
 
 /// Why an input was not read to its end.
-enum ReadEnd {
+#[derive(Clone, Copy, Debug, PartialEq, Eq)]
+pub enum ReadEnd {
+    /// A read failed.
     Fault,
+    /// The input has more bytes than the limit.
     TooLong,
+    /// Out of memory.
     Oom,
 }
 
-/// Reads to the end of the input, in pieces.
-fn read_input<S: Source>(alloc: Global, source: &mut S) -> Result<TryVec<u8>, ReadEnd>
+/// Reads to the end of the input, in pieces of 4096 bytes, and returns all of its bytes: those that the source had at the
+/// call, if it tells them. `TooLong` comes only if they are more than the limit, and then at most 4096 beyond it are read;
+/// `Fault` only if the source's count of faults rose or stands at its last value. The source may not be called after that, nor
+/// after its end. Memory for the bytes alone.
+pub fn read_input<S: Source>(alloc: Global, source: &mut S) -> Result<TryVec<u8>, ReadEnd>
     requires can_call { S.can_call source.old }
     ensures bytes { IfOk result (λ bytes. ReadsAll
         (use_of S.left S.faults source.old source.new) bytes.items) }
@@ -142,8 +172,9 @@ fn take_piece(bytes: &mut TryVec<u8>, piece: &[u8]) -> Result<(), ReadEnd>
     bytes.extend_from_slice(piece).map_err(|_| ReadEnd::Oom)
 }
 
-/// Writes a whole text, in pieces that the sink takes.
-fn write_text<K: Sink>(text: &str, sink: &mut K) -> Result<(), Failed>
+/// Writes a whole text: each write is offered all that is left, and an empty text makes no write. `Failed` comes only if the
+/// sink's count of faults rose or stands at its last value; a proper prefix is written then, and the sink may not be called.
+pub fn write_text<K: Sink>(text: &str, sink: &mut K) -> Result<(), Failed>
     requires can_call { K.can_call sink.old }
     ensures whole { OnOk result (WritesWhole text.now (use_of K.written K.faults sink.old sink.new)
         (λ most. AtMost most K.reaches sink.old sink.new)) }
@@ -171,24 +202,24 @@ fn finish<K: Sink>(text: &str, status: Status, sink: &mut K) -> Status
 }
 
 /// What is to be written for this input.
-fn answer_to_input(alloc: Global, input: &[u8]) -> Answer
+fn answer_to_input<P: Program>(alloc: Global, input: &[u8]) -> Answer
     ensures called_for { (source : Use) → ReadsAll source input.now
-        → CallsFor batch_meaning [] source (status_of result)
-        (text_of_answer batch_meaning.usage result) }
+        → CallsFor P.meaning [] source (status_of result)
+        (text_of_answer P.meaning.usage result) }
 {
-    match run(alloc, input) {
+    match P::run(alloc, input) {
         Ok(text) => Answer::Done(text),
-        Err(RunError::Syntax { line }) => answer_to_fault(alloc, line),
+        Err(RunError::Syntax { line }) => answer_to_fault::<P>(alloc, line),
         Err(RunError::Oom) => Answer::Oom,
     }
 }
 
 /// What is to be written where the input stops being a script at this line.
-fn answer_to_fault(alloc: Global, line: u64) -> Answer
-    ensures called_for { (input : List ℕ) (source : Use) → ¬ IsScript input
-        → IsFaultLine input line → ReadsAll source input
-        → CallsFor batch_meaning [] source (status_of result)
-        (text_of_answer batch_meaning.usage result) }
+fn answer_to_fault<P: Program>(alloc: Global, line: u64) -> Answer
+    ensures called_for { (input : List ℕ) (source : Use) → ¬ P.meaning.is_script input
+        → P.meaning.is_fault_line input line → ReadsAll source input
+        → CallsFor P.meaning [] source (status_of result)
+        (text_of_answer P.meaning.usage result) }
 {
     match format!(in alloc; "error: syntax at line {line}\n") {
         Ok(text) => Answer::Syntax(TryString::from_string(text)),
@@ -197,54 +228,30 @@ fn answer_to_fault(alloc: Global, line: u64) -> Answer
 }
 
 /// Reads a script: what is to be written for it, or why it was not read.
-fn answer_to_source<S: Source>(alloc: Global, source: &mut S) -> Answer
+fn answer_to_source<P: Program, S: Source>(alloc: Global, source: &mut S) -> Answer
     requires can_call { S.can_call source.old }
-    ensures called_for { CallsFor batch_meaning [] (use_of S.left S.faults source.old source.new)
-        (status_of result) (text_of_answer batch_meaning.usage result) }
+    ensures called_for { CallsFor P.meaning [] (use_of S.left S.faults source.old source.new)
+        (status_of result) (text_of_answer P.meaning.usage result) }
     ensures reads { AtMost (INPUT_LIMIT + 1) S.reaches source.old source.new }
 {
     match read_input(alloc, source) {
-        Ok(input) => answer_to_input(alloc, input.as_slice()),
+        Ok(input) => answer_to_input::<P>(alloc, input.as_slice()),
         Err(ReadEnd::Fault) => Answer::ReadFault,
         Err(ReadEnd::TooLong) => Answer::TooLong,
         Err(ReadEnd::Oom) => Answer::Oom,
     }
 }
 
-/// The summary of the script that is generated from these numbers.
-fn summary_of_run(alloc: Global, seed: u64, count: u64) -> Result<TryString, OutOfMemory>
-    requires few { count ≤ MOST_BATCHES }
-    ensures { IfOk result (λ text. text.bytes ≡ summary_text (generated seed count)) }
-{
-    summary(alloc, generate(alloc, seed, count)?)
-}
-
-/// What is to be written for the script that is generated from these numbers.
-fn answer_to_run(alloc: Global, seed: u64, count: u64) -> Answer
-    requires few { count ≤ MOST_BATCHES }
-    ensures called_for { (words : List Word) (source : Use) → AsksForRun words seed count
-        → Keeps source
-        → CallsFor batch_meaning words source (status_of result)
-        (text_of_answer batch_meaning.usage result) }
-{
-    match summary_of_run(alloc, seed, count) {
-        Ok(text) => Answer::Done(text),
-        Err(_) => Answer::Oom,
-    }
-}
-
-/// The whole program: reads a script from `source`, runs it, and writes the replies to `sink`; or runs the script that is
-/// generated from two numbers, and writes its summary.
+/// A whole program: reads a script from `source`, runs it, and writes the replies to `sink`; or writes what the words ask for.
 ///
-/// With no words, input is read to its end in pieces of 4096 bytes; then the replies of the script are written, or one line that
-/// says why there are none. With `gen SEED N`, two numbers in decimal of which N is at most 100000, nothing is read, and the seven
-/// lines of the summary are written. For all other words nothing is read and the usage is written.
+/// With no words, input is read to its end in pieces of 4096 bytes; then the replies to the script are written, or one line that
+/// says why there are none. For all words nothing is read.
 ///
 /// Returns the status. If several are possible it is, in this order: the usage; a read fault, an input too long or out of memory,
 /// whichever reading meets first; a fault of the script or out of memory; and a write fault in place of any of these. Each write
 /// is offered all that is left of the text; an empty text makes no write. No device is called after a call of it failed, nor the
 /// source after its end.
-pub fn top<S: Source, K: Sink>(
+pub fn serve<P: Program, S: Source, K: Sink>(
     alloc: Global,
     words: &TryVec<TryString>,
     source: &mut S,
@@ -252,40 +259,21 @@ pub fn top<S: Source, K: Sink>(
 ) -> Status
     requires can_read { S.can_call source.old }
     requires can_write { K.can_call sink.old }
-
-    // For every script the text of one run of its items is written whole, or memory ran out.
-    ensures headline { (input held : List ℕ) (items : List PlainItem)
-        → Premises words.now.items (use_of S.left S.faults source.old source.new)
-        (use_of K.written K.faults sink.old sink.new)
-        input held items
-        → RunsWhole result (K.written sink.new) held items
-        ⊎ WantsMemory result (K.written sink.new) held }
-
-    // For two numbers the summary of the script that they generate is written whole, or memory ran out.
-    ensures summary { (seed count : ℕ) (held : List ℕ) → AsksForRun words.now.items seed count
-        → K.written sink.old ≡ Some held → ¬ HasFaults (use_of K.written K.faults sink.old sink.new)
-        → SummarizesRun result (K.written sink.new) held seed count
-        ⊎ WantsMemory result (K.written sink.new) held }
-
-    // How it comes to each status, what is then written, and by how many writes.
-    ensures concludes { Concludes batch_meaning words.now.items
+    ensures concludes { Concludes P.meaning words.now.items
         (use_of S.left S.faults source.old source.new)
         (use_of K.written K.faults sink.old sink.new)
         (λ most. AtMost most K.reaches sink.old sink.new) result }
-
-    // Which statuses there can be, whatever the sink does, and when a fault comes.
-    ensures ends { EndsAmong batch_meaning words.now.items
+    ensures ends { EndsAmong P.meaning words.now.items
         (use_of S.left S.faults source.old source.new)
         (use_of K.written K.faults sink.old sink.new) result }
-
-    // How often is read: at most this often, and not at all if there are words.
     ensures reads { AtMost (INPUT_LIMIT + 1) S.reaches source.old source.new }
     ensures source_stays { words.now.items ≢ [] → source.new ≡ source.old }
 {
-    let answer = match wish_of(words) {
-        Wish::Script => answer_to_source(alloc, source),
-        Wish::Generated(seed, count) => answer_to_run(alloc, seed, count),
-        Wish::Usage => Answer::Usage,
+    let answer = match P::asked(alloc, words) {
+        Asked::Script => answer_to_source::<P, S>(alloc, source),
+        Asked::Text(text) => Answer::Done(text),
+        Asked::OutOfMemory => Answer::Oom,
+        Asked::Usage => Answer::Usage,
     };
-    finish(answer.text(), answer.status(), sink)
+    finish(answer.text::<P>(), answer.status(), sink)
 }

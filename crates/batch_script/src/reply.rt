@@ -1,5 +1,5 @@
 //! Writes replies.
-ghost use Rattle.std.specs.Prelude.{◌≡◌, ◌≤◌, ◌∷◌, [], ◌++◌, ℕ, codes, length, OnOk};
+ghost use Rattle.std.specs.Prelude.{◌≡◌, ◌≤◌, ◌∷◌, [], ◌++◌, ℕ, codes, length, OnOk, OnErr};
 ghost use Rattle.std.specs.List.{flat_map};
 ghost use Rattle.std.specs.Fmt.{decimal};
 ghost use Rattle.std.specs.FinMap.{entries};
@@ -61,15 +61,17 @@ fn push_records(text: &mut TryString, records: &[Record<u64>]) -> Result<(), Out
         ≡ text.old.bytes ++ text_of_lines (flat_map record_lines records.now)) }
 {
     for entry in records {
-        push_record(text, entry)?;
+        push_reply(text, entry)?;
     }
     Ok(())
 }
 
-/// Writes the line of a record, if it has one.
-fn push_record(text: &mut TryString, entry: &Record<u64>) -> Result<(), OutOfMemory>
+/// Puts the reply that a record shows at the end of a text, as one line; nothing for `Cut`, which has no reply of its own. If it is
+/// refused, the text is as before.
+pub fn push_reply(text: &mut TryString, entry: &Record<u64>) -> Result<(), OutOfMemory>
     ensures lines { OnOk result (text.new.bytes
         ≡ text.old.bytes ++ text_of_lines (record_lines entry.now)) }
+    ensures refusal_leaves { OnErr result (text.new ≡ text.old) }
 {
     match entry {
         Record::Pushed => text.push_str("ok\n"),
@@ -95,6 +97,7 @@ fn push_number(text: &mut TryString, word: &str, number: u64) -> Result<(), OutO
     requires short { length word.now ≤ LONGEST_WORD }
     ensures line { OnOk result (text.new.bytes
         ≡ text.old.bytes ++ text_of_lines ((word.now ++ decimal number) ∷ [])) }
+    ensures refusal_leaves { OnErr result (text.new ≡ text.old) }
 {
     text.push_number(word, number)
 }

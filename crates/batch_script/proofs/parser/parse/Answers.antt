@@ -1,8 +1,8 @@
-use Rattle.std.proofs.Common.{◌≡◌, ◌∙◌, take, length, sym, subst, arith, ap, Some, length-drop, Err, []}
+use Rattle.std.proofs.Common.{◌≡◌, ◌∙◌, take, length, sym, subst, arith, ap, length-drop, Err}
 use Rattle.std.proofs.lemmas.Bool.Decides.{nat_tests}
 use Rattle.batch_script.specs.Grammar.{lines_of}
-use Rattle.batch_script.specs.Reading.{AreRead, HasRead, begun_of, plain_items}
-use Rattle.batch_script.proofs.ReadingFacts.{IsOpen-read, IsFaultLine-at, IsFaultLine-end, begun-IsScript}
+use Rattle.batch_script.specs.Reading.{AreRead, HasRead, begun_in, plain_items}
+use Rattle.batch_script.proofs.ReadingFacts.{IsOpen-read, IsFaultLine-at, IsFaultLine-end, begun-IsScript, some_mapped}
 use Rattle.batch_script.proofs.ReadingFacts.{drop_next, no_lines, take_next, take_to_end}
 use Rattle.batch_script.specs.declared.parser.LineRefusal.TheVariants.{Syntax}
 use Rattle.batch_script.proofs.parser.parse.Goals as goal
@@ -16,7 +16,7 @@ returns-in-Err-Syntax-clause-refusal c =
     let refused : c.take_first_line.result ≡ Err Syntax = c.in-Err-Syntax.is ∙ ap Err c.in-Err-Syntax.field-0-is in
     let stuck = c.take_first_line.ensures.syntax refused in
     IsFaultLine-at c.args.input.now count stuck.0 stuck.1
-    (IsOpen-read (plain_items reading.items.items) (begun_of reading.has_begun reading.commands.items) (take count lines) inv.read)
+    (IsOpen-read (plain_items reading.items.items) (begun_in reading) (take count lines) inv.read)
     (inv.left ∙ stuck.2) (stuck.3 (take count lines) inv.read)
 
 pub loop-rest-preserved : goal.loop-rest-preserved
@@ -33,16 +33,17 @@ loop-rest-preserved c =
       counted = omega (arith, length-drop count lines, ap length next);
     }
 
-pub returns-then-reading-clause-refusal : goal.returns-then-reading-clause-refusal
-returns-then-reading-clause-refusal c =
+pub returns-then-is_some-clause-refusal : goal.returns-then-is_some-clause-refusal
+returns-then-is_some-clause-refusal c =
     let inv = c.loop-rest.invariant in
-    let items = plain_items c.loop-rest.reading.items.items in
-    let commands = c.loop-rest.reading.commands.items in
+    let reading = c.loop-rest.reading in
+    let items = plain_items reading.items.items in
     let lines = lines_of c.args.input.now in
     let count = c.loop-rest.line_number in
     let none : length c.loop-rest.rest.now ≡ 0 = grind (arith, nat_tests) in
-    let next = inv.left ∙ no_lines c.loop-rest.rest.now none in
-    let was = subst (λ begun. AreRead items (begun_of begun commands) (take count lines)) c.if-reading.true inv.read in (
-      begun-IsScript items commands c.args.input.now (subst (AreRead items (Some commands)) (take_to_end lines count next) was),
-      IsFaultLine-end c.args.input.now count (IsOpen-read items (Some commands) (take count lines) was) next inv.counted,
+    let next = inv.left ∙ no_lines c.loop-rest.rest.now none in (
+      begun-IsScript items (begun_in reading) c.args.input.now
+          (some_mapped (λ commands. commands.items) reading.begun (sym c.is_some.ensures ∙ c.if-is_some.true))
+          (subst (AreRead items (begun_in reading)) (take_to_end lines count next) inv.read),
+      IsFaultLine-end c.args.input.now count (IsOpen-read items (begun_in reading) (take count lines) inv.read) next inv.counted,
     )

@@ -6,8 +6,8 @@ use Rattle.batch_script.specs.Reply.{record_lines, text_of_lines}
 use Rattle.batch_script.proofs.RunFacts.{text-committed}
 use Rattle.batch_script.proofs.reply.push_committed.Goals as goal
 
-pub returns-in_ok-push_records : goal.returns-in_ok-push_records
-returns-in_ok-push_records c =
+pub returns : goal.returns
+returns c =
     let before = c.args.text.now.bytes in
     let lines = text_of_lines (flat_map record_lines c.args.records.now) in record {
       lines = on_ok_weaker c.push_str.result

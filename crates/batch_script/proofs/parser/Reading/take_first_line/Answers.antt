@@ -1,5 +1,5 @@
 use Rattle.batch_script.specs.Grammar.{line_of}
-use Rattle.batch_script.specs.Reading.{begun_of, listed, plain_items}
+use Rattle.batch_script.specs.Reading.{begun_in, listed, plain_items}
 use Rattle.batch_script.proofs.ReadingFacts.{stuck_with_none}
 use Rattle.batch_script.proofs.parser.Reading.take_first_line.Goals as goal
 
@@ -10,7 +10,7 @@ returns-in-None-clause-syntax c = λ refused.
       fault.0,
       fault.1,
       fault.2,
-      λ lines was. stuck_with_none (plain_items self.items.items) (begun_of self.has_begun self.commands.items) lines fault.0 was fault.3,
+      λ lines was. stuck_with_none (plain_items self.items.items) (begun_in self) lines fault.0 was fault.3,
     )
 
 pub returns-in_ok-take_parts-in-Some-clause-ok : goal.returns-in_ok-take_parts-in-Some-clause-ok
