@@ -1,6 +1,7 @@
 //! Boxed slices of the items of an iterator.
 ghost use Rattle.std.specs.Prelude.{◌≡◌, ◌<◌, ◌∷◌, [], ◌++◌, List, Ok, Err, map, length, IfOk, IfErr};
 ghost use Rattle.std.specs.Iterator.{Yields, Drains};
+ghost use Rattle.std.specs.Iterator.Runs.{WholeRun};
 ghost use Rattle.wic_collect.specs.Errors.{OnTooFewItems, OnIterError};
 ghost use Rattle.wic_collect.specs.Iterates.{IsReady, BecomesOne};
 
@@ -22,6 +23,7 @@ pub fn new_boxed_slice_from_iter<T: Drop, I: IntoIterator<Item = T>>(
 ) -> Result<BoxedSlice<T>, OutOfMemory>
     requires ready { IsReady I.into_iter_gives I.IntoIter.can_next iter }
     ensures items { IfOk result (λ s. BecomesOne I.into_iter_gives iter (λ it. Drains I.IntoIter.next_gives it s)) }
+    ensures runs { IfOk result (λ s. BecomesOne I.into_iter_gives iter (λ it. WholeRun I.IntoIter.next_gives it (λ p. s ≡ p.items))) }
 {
     TryFromIterator::<T, OutOfMemory>::try_from_iter(alloc, iter.into_iter())
 }

@@ -1,6 +1,7 @@
 //! Items put behind what a collection has.
-ghost use Rattle.std.specs.Prelude.{◌≡◌, ◌∷◌, [], ◌++◌, ℕ, List, length, MatchResult};
+ghost use Rattle.std.specs.Prelude.{◌≡◌, ◌∷◌, [], ◌++◌, ℕ, List, length, MatchResult, OnOk};
 ghost use Rattle.std.specs.Iterator.{Yields, Drains};
+ghost use Rattle.std.specs.Iterator.Runs.{WholeRun};
 ghost use Rattle.wic_vec.specs.TryVec.{HasRoomFor};
 ghost use Rattle.wic_collect.specs.Iterates.{IsReady, BecomesOne};
 
@@ -26,7 +27,9 @@ pub trait TryExtend<T> {
         ensures items { BecomesOne I.into_iter_gives iter (λ it. (items : List T) × extends self.old items self.new
             × MatchResult result (λ _. Drains I.IntoIter.next_gives it items)
             (λ _. (x : T) × (t : I.IntoIter) × Yields I.IntoIter.next_gives it (items ++ x ∷ []) t
-            × ¬ (has_room self.old (length (items ++ x ∷ []))))) };
+            × ¬ (has_room self.old (length (items ++ x ∷ []))))) }
+        ensures runs { OnOk result (BecomesOne I.into_iter_gives iter (λ it. WholeRun I.IntoIter.next_gives it
+            (λ p. extends self.old p.items self.new))) };
 }
 
 /// The items follow the elements.

@@ -1,6 +1,7 @@
 //! Collections made of the items of an iterator.
-ghost use Rattle.std.specs.Prelude.{⊤, ◌≡◌, ◌∷◌, [], ◌++◌, ◌⊎◌, List, Ok, Err, map, MatchResult};
+ghost use Rattle.std.specs.Prelude.{⊤, ◌≡◌, ◌∷◌, [], ◌++◌, ◌⊎◌, List, Ok, Err, map, MatchResult, IfOk};
 ghost use Rattle.std.specs.Iterator.{Yields, Drains};
+ghost use Rattle.std.specs.Iterator.Runs.{WholeRun};
 ghost use Rattle.wic_collect.specs.Collected.{EndsInError};
 
 use crate::collect::{Stop, pour};
@@ -109,6 +110,7 @@ pub fn try_collect<B: TryFromIterator<T, E>, T, E, I: Iterator<Item = T>>(
     requires ready { I.can_next iter }
     ensures items { MatchResult result (λ made. (items : List T) × Drains I.next_gives iter items × B.has made items)
         (λ e. (items : List T) × (t : I) × Yields I.next_gives iter items t × B.fails items e) }
+    ensures runs { IfOk result (λ made. WholeRun I.next_gives iter (λ p. B.has made p.items)) }
 {
     B::try_from_iter(alloc, iter)
 }

@@ -1,5 +1,6 @@
 use Rattle.std.proofs.Common.{◌≡◌, ◌∷◌, [], ◌++◌, length, length-append, Ok, refl, ap, ◌∙◌, arith}
 use Rattle.wic_collect.proofs.Reading.{drains_from_reads, yields_one_more}
+use Rattle.wic_collect.proofs.Whole.{whole_from_drains}
 use Rattle.wic_collect.proofs.extend.TryVecTryExtend.try_extend.Goals as goal
 
 pub returns-in-Ended : goal.returns-in-Ended
@@ -14,6 +15,12 @@ returns-in-Ended g c =
           read.1,
           drains_from_reads g.I.IntoIter.Iterator.next_gives (λ x. Ok x) (λ x. refl) c.into_iter.result read.0 read.2.0,
         ),
+      );
+      runs = (
+        c.into_iter.result,
+        c.into_iter.ensures.into_iter_gives,
+        whole_from_drains g.I.IntoIter.Iterator.next_gives c.into_iter.result read.0 _
+        (drains_from_reads g.I.IntoIter.Iterator.next_gives (λ x. Ok x) (λ x. refl) c.into_iter.result read.0 read.2.0) read.1,
       );
     }
 
@@ -39,4 +46,5 @@ returns-in-Refused g c =
           ),
         ),
       );
+      runs = tt;
     }
