@@ -1,3 +1,3 @@
-pub mod Calls
-pub mod Reading
-pub mod Whole
+pub mod CallFacts
+pub mod ReadingFacts
+pub mod RunFacts

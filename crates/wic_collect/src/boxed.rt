@@ -1,7 +1,8 @@
 //! Boxed slices of the items of an iterator.
 ghost use Rattle.std.specs.Prelude.{◌≡◌, ◌<◌, ◌∷◌, [], ◌++◌, List, Ok, Err, map, length, IfOk, IfErr};
 ghost use Rattle.std.specs.Iterator.{Yields, Drains};
-ghost use Rattle.std.specs.Iterator.Runs.{WholeRun};
+ghost use Rattle.std.specs.Iterator.Runs.{SomeRun, WholeRun};
+ghost use Rattle.wic_collect.specs.Collected.{HasValues, EndsAtError};
 ghost use Rattle.wic_collect.specs.Errors.{OnTooFewItems, OnIterError};
 ghost use Rattle.wic_collect.specs.Iterates.{IsReady, BecomesOne};
 
@@ -23,7 +24,8 @@ pub fn new_boxed_slice_from_iter<T: Drop, I: IntoIterator<Item = T>>(
 ) -> Result<BoxedSlice<T>, OutOfMemory>
     requires ready { IsReady I.into_iter_gives I.IntoIter.can_next iter }
     ensures items { IfOk result (λ s. BecomesOne I.into_iter_gives iter (λ it. Drains I.IntoIter.next_gives it s)) }
-    ensures runs { IfOk result (λ s. BecomesOne I.into_iter_gives iter (λ it. WholeRun I.IntoIter.next_gives it (λ p. s ≡ p.items))) }
+    ensures runs { IfOk result (λ s. BecomesOne I.into_iter_gives iter
+        (λ it. WholeRun I.IntoIter.next_gives it (λ p. s ≡ p.items))) }
 {
     TryFromIterator::<T, OutOfMemory>::try_from_iter(alloc, iter.into_iter())
 }
@@ -37,11 +39,15 @@ pub fn new_boxed_slice_from_iter_with_len<T: Drop, I: IntoIterator<Item = T> + D
     len: usize,
     iter: I,
 ) -> Result<BoxedSlice<T>, TooFewItemsOrOom>
-    requires ready { IsReady I.into_iter_gives I.IntoIter.can_next iter }
+    requires ready { 0 < len → IsReady I.into_iter_gives I.IntoIter.can_next iter }
     ensures items { IfOk result (λ s. (length s ≡ len) × BecomesOne I.into_iter_gives iter
         (λ it. (t : I.IntoIter) × Yields I.IntoIter.next_gives it s t)) }
     ensures too_few { IfErr result (OnTooFewItems (BecomesOne I.into_iter_gives iter
         (λ it. (items : List T) × Drains I.IntoIter.next_gives it items × (length items < len)))) }
+    ensures runs { IfOk result (λ s. BecomesOne I.into_iter_gives iter
+        (λ it. SomeRun I.IntoIter.next_gives it (λ p. (s ≡ p.items) × (p.len ≡ len)))) }
+    ensures too_few_run { IfErr result (OnTooFewItems (BecomesOne I.into_iter_gives iter
+        (λ it. WholeRun I.IntoIter.next_gives it (λ p. p.len < len)))) }
 {
     let builder = BoxedSliceBuilder::new(alloc, len)?;
     match boxed_slice_write_iter(builder, iter) {
@@ -62,6 +68,10 @@ pub fn new_boxed_slice_from_fallible_iter<T: Drop, E: Drop, I: IntoIterator<Item
     ensures items { IfOk result (λ s. BecomesOne I.into_iter_gives iter (λ it. Drains I.IntoIter.next_gives it (map Ok s))) }
     ensures first_error { IfErr result (OnIterError (λ e. BecomesOne I.into_iter_gives iter (λ it. (values : List T)
         × (t : I.IntoIter) × Yields I.IntoIter.next_gives it (map Ok values ++ Err e ∷ []) t))) }
+    ensures runs { IfOk result (λ s. BecomesOne I.into_iter_gives iter
+        (λ it. WholeRun I.IntoIter.next_gives it (λ p. HasValues p s))) }
+    ensures first_error_run { IfErr result (OnIterError (λ e. BecomesOne I.into_iter_gives iter
+        (λ it. SomeRun I.IntoIter.next_gives it (λ p. EndsAtError p e)))) }
 {
     let mut items = TryVec::new(alloc);
     match pour::<T, E, Result<T, E>, I::IntoIter>(&mut items, None, iter.into_iter()) {

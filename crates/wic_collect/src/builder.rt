@@ -1,6 +1,7 @@
 //! A slice that is made item by item.
 ghost use Rattle.std.specs.Prelude.{◌≡◌, ◌+◌, ◌<◌, ◌≤◌, ◌∷◌, [], ◌++◌, List, length, IsOk, IfOk, OnErr};
 ghost use Rattle.std.specs.Iterator.{Yields, Drains};
+ghost use Rattle.std.specs.Iterator.Runs.{SomeRun, WholeRun};
 ghost use Rattle.wic_collect.specs.Iterates.{IsReady, BecomesOne};
 
 use crate::collect::{Stop, pour};
@@ -106,11 +107,15 @@ pub fn boxed_slice_write_iter<T: Drop, I: IntoIterator<Item = T>>(
     builder: BoxedSliceBuilder<T>,
     iter: I,
 ) -> Result<BoxedSlice<T>, TooFewItems>
-    requires ready { IsReady I.into_iter_gives I.IntoIter.can_next iter }
+    requires ready { length builder.items < builder.capacity → IsReady I.into_iter_gives I.IntoIter.can_next iter }
     ensures items { IfOk result (λ s. (length s ≡ builder.capacity) × BecomesOne I.into_iter_gives iter
         (λ it. (more : List T) × (t : I.IntoIter) × Yields I.IntoIter.next_gives it more t × (s ≡ builder.items ++ more))) }
     ensures too_few { OnErr result (BecomesOne I.into_iter_gives iter
         (λ it. (more : List T) × Drains I.IntoIter.next_gives it more × (length builder.items + length more < builder.capacity))) }
+    ensures runs { IfOk result (λ s. BecomesOne I.into_iter_gives iter (λ it. SomeRun I.IntoIter.next_gives it
+        (λ p. (s ≡ builder.items ++ p.items) × (length builder.items + p.len ≡ builder.capacity)))) }
+    ensures too_few_run { OnErr result (BecomesOne I.into_iter_gives iter (λ it. WholeRun I.IntoIter.next_gives it
+        (λ p. length builder.items + p.len < builder.capacity))) }
 {
     let BoxedSliceBuilder { mut items, len } = builder;
     match pour::<T, OutOfMemory, T, I::IntoIter>(&mut items, Some(len), iter.into_iter()) {

@@ -1,5 +1,5 @@
 //! Items of an iterator put into a vector: the one loop that all calls of this crate stand on.
-ghost use Rattle.std.specs.Prelude.{◌≡◌, ◌≤◌, ◌++◌, List, Result, Ok, length, IfSome};
+ghost use Rattle.std.specs.Prelude.{◌≡◌, ◌<◌, ◌≤◌, ◌++◌, List, Result, Ok, length, IfSome};
 ghost use Rattle.wic_collect.specs.Collect.{IsStoppedBy};
 
 use std::alloc::Global;
@@ -50,7 +50,7 @@ pub(crate) fn pour<T: Drop, E, X: IntoResult<T, E>, I: Iterator<Item = X>>(
     limit: Option<usize>,
     mut iter: I,
 ) -> Stop<E>
-    requires ready { I.can_next iter }
+    requires ready { IfSome limit (λ most. length to.old.items < most) → I.can_next iter }
     requires within { IfSome limit (λ most. length to.old.items ≤ most) }
     ensures items { (values : List T) × (to.new.items ≡ to.old.items ++ values)
         × IsStoppedBy I.next_gives X.as_result limit iter values to.new result }

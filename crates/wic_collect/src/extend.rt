@@ -1,7 +1,7 @@
 //! Items put behind what a collection has.
-ghost use Rattle.std.specs.Prelude.{◌≡◌, ◌∷◌, [], ◌++◌, ℕ, List, length, MatchResult, OnOk};
+ghost use Rattle.std.specs.Prelude.{◌≡◌, ◌≤◌, ◌∷◌, [], ◌++◌, ℕ, List, length, MatchResult, OnOk, OnErr};
 ghost use Rattle.std.specs.Iterator.{Yields, Drains};
-ghost use Rattle.std.specs.Iterator.Runs.{WholeRun};
+ghost use Rattle.std.specs.Iterator.Runs.{SomeRun, WholeRun};
 ghost use Rattle.wic_vec.specs.TryVec.{HasRoomFor};
 ghost use Rattle.wic_collect.specs.Iterates.{IsReady, BecomesOne};
 
@@ -17,6 +17,8 @@ pub trait TryExtend<T> {
     ghost extends: { Self → List T → Self → Type 0 };
     // So many more items fit with no request for memory.
     ghost has_room: { Self → ℕ → Type 0 };
+    // The second one has no less room in all than the first.
+    ghost keeps_room: { Self → Self → Type 0 };
 
     /// Puts the items of `iter` behind what is there, in order. It is refused only where there is no room for all items
     /// that were read: then those before the last one read were put there, and no more are read.
@@ -29,7 +31,10 @@ pub trait TryExtend<T> {
             (λ _. (x : T) × (t : I.IntoIter) × Yields I.IntoIter.next_gives it (items ++ x ∷ []) t
             × ¬ (has_room self.old (length (items ++ x ∷ []))))) }
         ensures runs { OnOk result (BecomesOne I.into_iter_gives iter (λ it. WholeRun I.IntoIter.next_gives it
-            (λ p. extends self.old p.items self.new))) };
+            (λ p. extends self.old p.items self.new))) }
+        ensures refused_beyond_room { OnErr result (BecomesOne I.into_iter_gives iter
+            (λ it. SomeRun I.IntoIter.next_gives it (λ p. ¬ (has_room self.old p.len)))) }
+        ensures room_never_falls { keeps_room self.old self.new };
 }
 
 /// The items follow the elements.
@@ -37,6 +42,8 @@ impl<T: Drop> TryExtend<T> for TryVec<T> {
     ghost extends = { λ v items w. w.items ≡ v.items ++ items };
 
     ghost has_room = { HasRoomFor };
+
+    ghost keeps_room = { λ v w. v.capacity ≤ w.capacity };
 
     fn try_extend<I: IntoIterator<Item = T>>(&mut self, iter: I) -> Result<(), OutOfMemory> {
         match pour::<T, OutOfMemory, T, I::IntoIter>(self, None, iter.into_iter()) {

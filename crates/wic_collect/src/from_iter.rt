@@ -1,7 +1,7 @@
 //! Collections made of the items of an iterator.
-ghost use Rattle.std.specs.Prelude.{⊤, ◌≡◌, ◌∷◌, [], ◌++◌, ◌⊎◌, List, Ok, Err, map, MatchResult, IfOk};
+ghost use Rattle.std.specs.Prelude.{⊤, ◌≡◌, ◌∷◌, [], ◌++◌, ◌⊎◌, List, Ok, Err, map, MatchResult};
 ghost use Rattle.std.specs.Iterator.{Yields, Drains};
-ghost use Rattle.std.specs.Iterator.Runs.{WholeRun};
+ghost use Rattle.std.specs.Iterator.Runs.{SomeRun, WholeRun};
 ghost use Rattle.wic_collect.specs.Collected.{EndsInError};
 
 use crate::collect::{Stop, pour};
@@ -25,7 +25,9 @@ pub trait TryFromIterator<T, E> {
     fn try_from_iter<I: Iterator<Item = T>>(alloc: Global, iter: I) -> Result<Self, E>
         requires ready { I.can_next iter }
         ensures items { MatchResult result (λ made. (items : List T) × Drains I.next_gives iter items × has made items)
-            (λ e. (items : List T) × (t : I) × Yields I.next_gives iter items t × fails items e) };
+            (λ e. (items : List T) × (t : I) × Yields I.next_gives iter items t × fails items e) }
+        ensures runs { MatchResult result (λ made. WholeRun I.next_gives iter (λ p. has made p.items))
+            (λ e. SomeRun I.next_gives iter (λ p. fails p.items e)) };
 }
 
 /// All items. Want of memory may come after any of them.
@@ -110,7 +112,8 @@ pub fn try_collect<B: TryFromIterator<T, E>, T, E, I: Iterator<Item = T>>(
     requires ready { I.can_next iter }
     ensures items { MatchResult result (λ made. (items : List T) × Drains I.next_gives iter items × B.has made items)
         (λ e. (items : List T) × (t : I) × Yields I.next_gives iter items t × B.fails items e) }
-    ensures runs { IfOk result (λ made. WholeRun I.next_gives iter (λ p. B.has made p.items)) }
+    ensures runs { MatchResult result (λ made. WholeRun I.next_gives iter (λ p. B.has made p.items))
+        (λ e. SomeRun I.next_gives iter (λ p. B.fails p.items e)) }
 {
     B::try_from_iter(alloc, iter)
 }

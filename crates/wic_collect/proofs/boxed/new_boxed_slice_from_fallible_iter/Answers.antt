@@ -1,17 +1,35 @@
-use Rattle.std.proofs.Common.{refl, Err}
-use Rattle.wic_collect.proofs.Reading.{results_one_more}
+use Rattle.std.proofs.Common.{refl, Err, Ok, map, ap, sym, subst, ◌∙◌, ◌++◌}
+use Rattle.std.specs.Iterator.{Drains}
+use Rattle.wic_collect.proofs.ReadingFacts.{drains_results, results_one_more}
+use Rattle.wic_collect.proofs.RunFacts.{values_of_run, error_of_run}
 use Rattle.wic_collect.proofs.boxed.new_boxed_slice_from_fallible_iter.Goals as goal
 
-pub returns-in-Error-clause-first_error : goal.returns-in-Error-clause-first_error
-returns-in-Error-clause-first_error g c =
+pub returns-in-Error : goal.returns-in-Error
+returns-in-Error g c =
     let read = c.in-Error.ensures.items in
-    let last = read.2 in (
+    let last = read.2 in
+    let steps = g.I.IntoIter.Iterator.next_gives in
+    let gave = results_one_more steps (λ x. x) (λ x. refl) c.into_iter.result last.0 last.2 read.0 last.1 (Err c.in-Error.error)
+        last.3 last.4 last.5 in
+    record {
+      items = tt;
+      first_error = (c.into_iter.result, c.into_iter.ensures.into_iter_gives, (read.0, last.2, gave));
+      runs = tt;
+      first_error_run = (
+        c.into_iter.result,
+        c.into_iter.ensures.into_iter_gives,
+        error_of_run steps c.into_iter.result last.2 read.0 c.in-Error.error gave,
+      );
+    }
+
+pub returns-in-Ok-clause-runs : goal.returns-in-Ok-clause-runs
+returns-in-Ok-clause-runs g c =
+    let read = c.in-Ended.ensures.items in
+    let steps = g.I.IntoIter.Iterator.next_gives in
+    let made = c.in-Ok.ensures.items ∙ read.1 ∙ ap (λ l. l ++ read.0) c.new-items.ensures.empty in (
       c.into_iter.result,
       c.into_iter.ensures.into_iter_gives,
-      (
-        read.0,
-        last.2,
-        results_one_more g.I.IntoIter.Iterator.next_gives (λ x. x) (λ x. refl) c.into_iter.result last.0 last.2 read.0 last.1
-            (Err c.in-Error.error) last.3 last.4 last.5,
-      ),
+      values_of_run steps c.into_iter.result c.in-Ok.slice
+      (subst (λ l. Drains steps c.into_iter.result (map Ok l)) (sym made)
+      (drains_results steps (λ x. x) (λ x. refl) c.into_iter.result read.0 read.2.0)),
     )
