@@ -1,3 +1,4 @@
 pub mod CallFacts
 pub mod ReadingFacts
+pub mod ResultFacts
 pub mod RunFacts

@@ -2,7 +2,7 @@
 ghost use Rattle.std.specs.Prelude.{◌≡◌, ◌<◌, ◌∷◌, [], ◌++◌, List, Ok, Err, map, length, IfOk, IfErr};
 ghost use Rattle.std.specs.Iterator.{Yields, Drains};
 ghost use Rattle.std.specs.Iterator.Runs.{SomeRun, WholeRun};
-ghost use Rattle.wic_collect.specs.Collected.{HasValues, EndsAtError};
+ghost use Rattle.wic_collect.specs.Collected.{AreValues, EndWithError};
 ghost use Rattle.wic_collect.specs.Errors.{OnTooFewItems, OnIterError};
 ghost use Rattle.wic_collect.specs.Iterates.{IsReady, BecomesOne};
 
@@ -69,9 +69,9 @@ pub fn new_boxed_slice_from_fallible_iter<T: Drop, E: Drop, I: IntoIterator<Item
     ensures first_error { IfErr result (OnIterError (λ e. BecomesOne I.into_iter_gives iter (λ it. (values : List T)
         × (t : I.IntoIter) × Yields I.IntoIter.next_gives it (map Ok values ++ Err e ∷ []) t))) }
     ensures runs { IfOk result (λ s. BecomesOne I.into_iter_gives iter
-        (λ it. WholeRun I.IntoIter.next_gives it (λ p. HasValues p s))) }
+        (λ it. WholeRun I.IntoIter.next_gives it (λ p. AreValues p.items s))) }
     ensures first_error_run { IfErr result (OnIterError (λ e. BecomesOne I.into_iter_gives iter
-        (λ it. SomeRun I.IntoIter.next_gives it (λ p. EndsAtError p e)))) }
+        (λ it. SomeRun I.IntoIter.next_gives it (λ p. EndWithError p.items e)))) }
 {
     let mut items = TryVec::new(alloc);
     match pour::<T, E, Result<T, E>, I::IntoIter>(&mut items, None, iter.into_iter()) {

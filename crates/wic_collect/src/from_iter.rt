@@ -2,7 +2,7 @@
 ghost use Rattle.std.specs.Prelude.{⊤, ◌≡◌, ◌∷◌, [], ◌++◌, ◌⊎◌, List, Ok, Err, map, MatchResult};
 ghost use Rattle.std.specs.Iterator.{Yields, Drains};
 ghost use Rattle.std.specs.Iterator.Runs.{SomeRun, WholeRun};
-ghost use Rattle.wic_collect.specs.Collected.{EndsInError};
+ghost use Rattle.wic_collect.specs.Collected.{AreValues, EndInError};
 
 use crate::collect::{Stop, pour};
 use crate::slice::{BoxedSlice, into_boxed_slice};
@@ -51,9 +51,9 @@ impl<T: Drop> TryFromIterator<T, OutOfMemory> for TryVec<T> {
 
 /// The values of all items. The first item that is an `Err` is answered, and no more are read.
 impl<T: Drop, E: From<OutOfMemory> + Drop> TryFromIterator<Result<T, E>, E> for TryVec<T> {
-    ghost has = { λ v items. items ≡ map Ok v.items };
+    ghost has = { λ v items. AreValues items v.items };
 
-    ghost fails = { EndsInError E.from_gives };
+    ghost fails = { λ items e. EndInError items E.from_gives e };
 
     fn try_from_iter<I: Iterator<Item = Result<T, E>>>(
         alloc: Global,
@@ -86,9 +86,9 @@ impl<T: Drop> TryFromIterator<T, OutOfMemory> for BoxedSlice<T> {
 
 /// The values of all items. The first item that is an `Err` is answered, and no more are read.
 impl<T: Drop, E: From<OutOfMemory> + Drop> TryFromIterator<Result<T, E>, E> for BoxedSlice<T> {
-    ghost has = { λ s items. items ≡ map Ok s };
+    ghost has = { λ s items. AreValues items s };
 
-    ghost fails = { EndsInError E.from_gives };
+    ghost fails = { λ items e. EndInError items E.from_gives e };
 
     fn try_from_iter<I: Iterator<Item = Result<T, E>>>(
         alloc: Global,

@@ -21,8 +21,8 @@ returns-in-Full g c =
         c.into_iter.result,
         c.into_iter.ensures.into_iter_gives,
         some_from_yields steps c.into_iter.result read.2.0.0 read.0
-        (λ l n. (c.of.result ≡ c.args.builder.items ++ l) × (length c.args.builder.items + n ≡ c.args.builder.capacity)) gave
-        (made, sym (length-append c.args.builder.items read.0) ∙ sym (ap length made) ∙ long),
+            (λ l n. (c.of.result ≡ c.args.builder.items ++ l) × (length c.args.builder.items + n ≡ c.args.builder.capacity)) gave
+            (made, sym (length-append c.args.builder.items read.0) ∙ sym (ap length made) ∙ long),
       );
       too_few_run = tt;
     }
@@ -44,6 +44,6 @@ returns-in-Ended g c =
         c.into_iter.result,
         c.into_iter.ensures.into_iter_gives,
         whole_from_drains steps c.into_iter.result read.0 (λ l n. length c.args.builder.items + n < c.args.builder.capacity)
-        drained few,
+            drained few,
       );
     }

@@ -30,7 +30,7 @@ returns-in-Refused g c =
     let long = ap length read.1 ∙ length-append c.args.self.now.items read.0 in
     let more = length-append read.0 (last.1 ∷ []) in
     let beyond : ¬ (HasRoomFor c.args.self.now (length items)) =
-        λ room. omega (arith, room, long, more, read.2.1, c.in-Refused.ensures.capacity_never_falls) in
+    λ room. omega (arith, room, long, more, read.2.1, c.in-Refused.ensures.capacity_never_falls) in
     record {
       items = (
         c.into_iter.result,

@@ -1,6 +1,7 @@
 use Rattle.std.proofs.Common.{◌≡◌, ◌∷◌, [], ◌++◌, map, Ok, Err, inl, inr, refl, ap, sym, ◌∙◌}
-use Rattle.wic_collect.specs.Collected.{EndsInError}
+use Rattle.wic_collect.specs.Collected.{AreValues, EndInError}
 use Rattle.wic_collect.proofs.ReadingFacts.{drains_results, results_from_reads, results_one_more}
+use Rattle.wic_collect.proofs.ResultFacts.{are_values, end_with_error}
 use Rattle.wic_collect.proofs.RunFacts.{whole_from_drains, some_from_yields}
 use Rattle.wic_collect.proofs.from_iter.TryVecTryFromIteratorResult.try_from_iter.Goals as goal
 
@@ -9,10 +10,11 @@ returns-in-Ended g c =
     let read = c.in-Ended.ensures.items in
     let steps = g.I.Iterator.next_gives in
     let drained = drains_results steps (λ x. x) (λ x. refl) c.args.iter read.0 read.2.0 in
-    let made = ap (map Ok) (sym (read.1 ∙ ap (λ l. l ++ read.0) c.new-items.ensures.empty)) in
+    let made = are_values (map Ok read.0) c.pour.new.to.items
+    (ap (map Ok) (sym (read.1 ∙ ap (λ l. l ++ read.0) c.new-items.ensures.empty))) in
     record {
       items = (map Ok read.0, drained, made);
-      runs = whole_from_drains steps c.args.iter (map Ok read.0) (λ l n. l ≡ map Ok c.pour.new.to.items) drained made;
+      runs = whole_from_drains steps c.args.iter (map Ok read.0) (λ l n. AreValues l c.pour.new.to.items) drained made;
     }
 
 pub returns-in-Error : goal.returns-in-Error
@@ -22,18 +24,22 @@ returns-in-Error g c =
     let steps = g.I.Iterator.next_gives in
     let items = map Ok read.0 ++ Err c.in-Error.error ∷ [] in
     let gave = results_one_more steps (λ x. x) (λ x. refl) c.args.iter last.0 last.2 read.0 last.1 (Err c.in-Error.error)
-        last.3 last.4 last.5 in
+    last.3 last.4 last.5 in
+    let ended = inl (end_with_error read.0 c.in-Error.error) in
     record {
-      items = (items, last.2, gave, inl (read.0, refl));
-      runs = some_from_yields steps c.args.iter last.2 items (λ l n. EndsInError g.E.From.from_gives l c.in-Error.error) gave
-          (inl (read.0, refl));
+      items = (items, last.2, gave, ended);
+      runs = some_from_yields steps c.args.iter last.2 items (λ l n. EndInError l g.E.From.from_gives c.in-Error.error) gave ended;
     }
 
-pub returns-in-Refused-clause-runs : goal.returns-in-Refused-clause-runs
-returns-in-Refused-clause-runs g c =
+pub returns-in-Refused : goal.returns-in-Refused
+returns-in-Refused g c =
     let read = c.in-Refused.ensures.items in
     let last = read.2.0 in
     let steps = g.I.Iterator.next_gives in
-    some_from_yields steps c.args.iter last.0 (map Ok read.0) (λ l n. EndsInError g.E.From.from_gives l c.from.result)
-    (results_from_reads steps (λ x. x) (λ x. refl) c.args.iter last.0 read.0 last.3)
-    (inr (c.in-Refused.oom, c.from.ensures))
+    let gave = results_from_reads steps (λ x. x) (λ x. refl) c.args.iter last.0 read.0 last.3 in
+    let ended = inr (c.in-Refused.oom, c.from.ensures) in
+    record {
+      items = (map Ok read.0, last.0, gave, ended);
+      runs = some_from_yields steps c.args.iter last.0 (map Ok read.0) (λ l n. EndInError l g.E.From.from_gives c.from.result) gave
+          ended;
+    }
