@@ -74,7 +74,7 @@ pub fn new_boxed_slice_from_fallible_iter<T: Drop, E: Drop, I: IntoIterator<Item
         (λ it. SomeRun I.IntoIter.next_gives it (λ p. EndWithError p.items e)))) }
 {
     let mut items = TryVec::new(alloc);
-    match pour::<T, E, Result<T, E>, I::IntoIter>(&mut items, None, iter.into_iter()) {
+    match pour::<T, E, Result<T, E>, I::IntoIter>(&mut items, None, &mut iter.into_iter()) {
         Stop::Ended => match into_boxed_slice(items) {
             Ok(slice) => Ok(slice),
             Err(oom) => Err(BoxedSliceFromFallibleIterError::Oom(oom)),

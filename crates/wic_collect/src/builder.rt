@@ -118,7 +118,7 @@ pub fn boxed_slice_write_iter<T: Drop, I: IntoIterator<Item = T>>(
         (λ p. length builder.items + p.len < builder.capacity))) }
 {
     let BoxedSliceBuilder { mut items, len } = builder;
-    match pour::<T, OutOfMemory, T, I::IntoIter>(&mut items, Some(len), iter.into_iter()) {
+    match pour::<T, OutOfMemory, T, I::IntoIter>(&mut items, Some(len), &mut iter.into_iter()) {
         Stop::Full => Ok(BoxedSlice::of(items)),
         Stop::Ended => Err(TooFewItems),
         Stop::Error(_) | Stop::Refused(_) => unreachable!(),

@@ -46,7 +46,7 @@ impl<T: Drop> TryExtend<T> for TryVec<T> {
     ghost keeps_room = { λ v w. v.capacity ≤ w.capacity };
 
     fn try_extend<I: IntoIterator<Item = T>>(&mut self, iter: I) -> Result<(), OutOfMemory> {
-        match pour::<T, OutOfMemory, T, I::IntoIter>(self, None, iter.into_iter()) {
+        match pour::<T, OutOfMemory, T, I::IntoIter>(self, None, &mut iter.into_iter()) {
             Stop::Ended => Ok(()),
             Stop::Refused(oom) => Err(oom),
             Stop::Full | Stop::Error(_) => unreachable!(),

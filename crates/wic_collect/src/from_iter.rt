@@ -38,10 +38,10 @@ impl<T: Drop> TryFromIterator<T, OutOfMemory> for TryVec<T> {
 
     fn try_from_iter<I: Iterator<Item = T>>(
         alloc: Global,
-        iter: I,
+        mut iter: I,
     ) -> Result<TryVec<T>, OutOfMemory> {
         let mut items = TryVec::new(alloc);
-        match pour::<T, OutOfMemory, T, I>(&mut items, None, iter) {
+        match pour::<T, OutOfMemory, T, I>(&mut items, None, &mut iter) {
             Stop::Ended => Ok(items),
             Stop::Refused(oom) => Err(oom),
             Stop::Full | Stop::Error(_) => unreachable!(),
@@ -57,10 +57,10 @@ impl<T: Drop, E: From<OutOfMemory> + Drop> TryFromIterator<Result<T, E>, E> for 
 
     fn try_from_iter<I: Iterator<Item = Result<T, E>>>(
         alloc: Global,
-        iter: I,
+        mut iter: I,
     ) -> Result<TryVec<T>, E> {
         let mut items = TryVec::new(alloc);
-        match pour::<T, E, Result<T, E>, I>(&mut items, None, iter) {
+        match pour::<T, E, Result<T, E>, I>(&mut items, None, &mut iter) {
             Stop::Ended => Ok(items),
             Stop::Error(error) => Err(error),
             Stop::Refused(oom) => Err(E::from(oom)),

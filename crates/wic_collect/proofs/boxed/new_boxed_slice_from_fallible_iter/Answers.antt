@@ -12,7 +12,7 @@ returns-in-Ok g c =
     let steps = g.I.IntoIter.Iterator.next_gives in
     let made = c.in-Ok.ensures.items ∙ read.1 ∙ ap (λ l. l ++ read.0) c.new-items.ensures.empty in
     let drained = subst (λ l. Drains steps c.into_iter.result (map Ok l)) (sym made)
-    (drains_results steps (λ x. x) (λ x. refl) c.into_iter.result read.0 read.2.0) in
+    (drains_results steps (λ x. x) (λ x. refl) c.into_iter.result c.pour.new.iter read.0 read.2.0) in
     record {
       items = (c.into_iter.result, c.into_iter.ensures.into_iter_gives, drained);
       first_error = tt;
@@ -31,16 +31,16 @@ returns-in-Error g c =
     let last = read.2 in
     let steps = g.I.IntoIter.Iterator.next_gives in
     let items = map Ok read.0 ++ Err c.in-Error.error ∷ [] in
-    let gave = results_one_more steps (λ x. x) (λ x. refl) c.into_iter.result last.0 last.2 read.0 last.1 (Err c.in-Error.error)
-    last.3 last.4 last.5 in
+    let gave = results_one_more steps (λ x. x) (λ x. refl) c.into_iter.result last.0 c.pour.new.iter read.0 last.1
+        (Err c.in-Error.error) last.2 last.3 last.4 in
     record {
       items = tt;
-      first_error = (c.into_iter.result, c.into_iter.ensures.into_iter_gives, (read.0, last.2, gave));
+      first_error = (c.into_iter.result, c.into_iter.ensures.into_iter_gives, (read.0, c.pour.new.iter, gave));
       runs = tt;
       first_error_run = (
         c.into_iter.result,
         c.into_iter.ensures.into_iter_gives,
-        some_from_yields steps c.into_iter.result last.2 items (λ l n. EndWithError l c.in-Error.error) gave
+        some_from_yields steps c.into_iter.result c.pour.new.iter items (λ l n. EndWithError l c.in-Error.error) gave
             (end_with_error read.0 c.in-Error.error),
       );
     }

@@ -11,16 +11,16 @@ returns-in-Full g c =
     let limit = read.2.1 in
     let as_many : length c.pour.new.to.items ≡ c.builder.inside.len = cc in
     let steps = g.I.IntoIter.Iterator.next_gives in
-    let gave = yields_from_reads steps (λ x. Ok x) (λ x. refl) c.into_iter.result read.2.0.0 read.0 read.2.0.1 in
+    let gave = yields_from_reads steps (λ x. Ok x) (λ x. refl) c.into_iter.result c.pour.new.iter read.0 read.2.0 in
     let made = c.of.ensures.items ∙ read.1 ∙ ap (λ l. l ++ read.0) same in
     let long = ap length c.of.ensures.items ∙ as_many ∙ full in
     record {
-      items = (long, (c.into_iter.result, c.into_iter.ensures.into_iter_gives, (read.0, read.2.0.0, gave, made)));
+      items = (long, (c.into_iter.result, c.into_iter.ensures.into_iter_gives, (read.0, c.pour.new.iter, gave, made)));
       too_few = tt;
       runs = (
         c.into_iter.result,
         c.into_iter.ensures.into_iter_gives,
-        some_from_yields steps c.into_iter.result read.2.0.0 read.0
+        some_from_yields steps c.into_iter.result c.pour.new.iter read.0
             (λ l n. (c.of.result ≡ c.args.builder.items ++ l) × (length c.args.builder.items + n ≡ c.args.builder.capacity)) gave
             (made, sym (length-append c.args.builder.items read.0) ∙ sym (ap length made) ∙ long),
       );
@@ -34,7 +34,7 @@ returns-in-Ended g c =
     let full = ap (λ b. b.capacity) c.builder.view_is in
     let long = ap length read.1 ∙ length-append c.builder.inside.items.items read.0 in
     let steps = g.I.IntoIter.Iterator.next_gives in
-    let drained = drains_from_reads steps (λ x. Ok x) (λ x. refl) c.into_iter.result read.0 read.2.0 in
+    let drained = drains_from_reads steps (λ x. Ok x) (λ x. refl) c.into_iter.result c.pour.new.iter read.0 read.2.0 in
     let few : length c.args.builder.items + length read.0 < c.args.builder.capacity = omega (arith, long, same, full, read.2.1) in
     record {
       items = tt;

@@ -8,7 +8,7 @@ pub returns-in-Ended : goal.returns-in-Ended
 returns-in-Ended g c =
     let read = c.in-Ended.ensures.items in
     let steps = g.I.IntoIter.Iterator.next_gives in
-    let drained = drains_from_reads steps (λ x. Ok x) (λ x. refl) c.into_iter.result read.0 read.2.0 in
+    let drained = drains_from_reads steps (λ x. Ok x) (λ x. refl) c.into_iter.result c.pour.new.iter read.0 read.2.0 in
     record {
       items = (c.into_iter.result, c.into_iter.ensures.into_iter_gives, (read.0, read.1, drained));
       runs = (
@@ -26,7 +26,7 @@ returns-in-Refused g c =
     let last = read.2.0 in
     let items = read.0 ++ last.1 ∷ [] in
     let steps = g.I.IntoIter.Iterator.next_gives in
-    let gave = yields_one_more steps (λ x. Ok x) (λ x. refl) c.into_iter.result last.0 last.2 read.0 last.1 last.3 last.4 in
+    let gave = yields_one_more steps (λ x. Ok x) (λ x. refl) c.into_iter.result last.0 c.pour.new.iter read.0 last.1 last.2 last.3 in
     let long = ap length read.1 ∙ length-append c.args.self.now.items read.0 in
     let more = length-append read.0 (last.1 ∷ []) in
     let beyond : ¬ (HasRoomFor c.args.self.now (length items)) =
@@ -35,13 +35,13 @@ returns-in-Refused g c =
       items = (
         c.into_iter.result,
         c.into_iter.ensures.into_iter_gives,
-        (read.0, read.1, (last.1, last.2, gave, beyond)),
+        (read.0, read.1, (last.1, c.pour.new.iter, gave, beyond)),
       );
       runs = tt;
       refused_beyond_room = (
         c.into_iter.result,
         c.into_iter.ensures.into_iter_gives,
-        some_from_yields steps c.into_iter.result last.2 items (λ l n. ¬ (HasRoomFor c.args.self.now n)) gave beyond,
+        some_from_yields steps c.into_iter.result c.pour.new.iter items (λ l n. ¬ (HasRoomFor c.args.self.now n)) gave beyond,
       );
       room_never_falls = c.in-Refused.ensures.capacity_never_falls;
     }

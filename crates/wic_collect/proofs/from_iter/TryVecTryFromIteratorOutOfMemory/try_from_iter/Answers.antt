@@ -8,7 +8,7 @@ pub returns-in-Ended : goal.returns-in-Ended
 returns-in-Ended g c =
     let read = c.in-Ended.ensures.items in
     let steps = g.I.Iterator.next_gives in
-    let drained = drains_from_reads steps (λ x. Ok x) (λ x. refl) c.args.iter read.0 read.2.0 in
+    let drained = drains_from_reads steps (λ x. Ok x) (λ x. refl) c.args.iter c.pour.new.iter read.0 read.2.0 in
     let made = read.1 ∙ ap (λ l. l ++ read.0) c.new-items.ensures.empty in
     record {
       items = (read.0, drained, made);
@@ -21,8 +21,8 @@ returns-in-Refused g c =
     let last = read.2.0 in
     let steps = g.I.Iterator.next_gives in
     let items = read.0 ++ last.1 ∷ [] in
-    let gave = yields_one_more steps (λ x. Ok x) (λ x. refl) c.args.iter last.0 last.2 read.0 last.1 last.3 last.4 in
+    let gave = yields_one_more steps (λ x. Ok x) (λ x. refl) c.args.iter last.0 c.pour.new.iter read.0 last.1 last.2 last.3 in
     record {
-      items = (items, last.2, gave, tt);
-      runs = some_from_yields steps c.args.iter last.2 items (λ l n. ⊤) gave tt;
+      items = (items, c.pour.new.iter, gave, tt);
+      runs = some_from_yields steps c.args.iter c.pour.new.iter items (λ l n. ⊤) gave tt;
     }

@@ -9,7 +9,7 @@ pub returns-in-Ended : goal.returns-in-Ended
 returns-in-Ended g c =
     let read = c.in-Ended.ensures.items in
     let steps = g.I.Iterator.next_gives in
-    let drained = drains_results steps (λ x. x) (λ x. refl) c.args.iter read.0 read.2.0 in
+    let drained = drains_results steps (λ x. x) (λ x. refl) c.args.iter c.pour.new.iter read.0 read.2.0 in
     let made = are_values (map Ok read.0) c.pour.new.to.items
     (ap (map Ok) (sym (read.1 ∙ ap (λ l. l ++ read.0) c.new-items.ensures.empty))) in
     record {
@@ -23,12 +23,12 @@ returns-in-Error g c =
     let last = read.2 in
     let steps = g.I.Iterator.next_gives in
     let items = map Ok read.0 ++ Err c.in-Error.error ∷ [] in
-    let gave = results_one_more steps (λ x. x) (λ x. refl) c.args.iter last.0 last.2 read.0 last.1 (Err c.in-Error.error)
-    last.3 last.4 last.5 in
+    let gave = results_one_more steps (λ x. x) (λ x. refl) c.args.iter last.0 c.pour.new.iter read.0 last.1
+        (Err c.in-Error.error) last.2 last.3 last.4 in
     let ended = inl (end_with_error read.0 c.in-Error.error) in
     record {
-      items = (items, last.2, gave, ended);
-      runs = some_from_yields steps c.args.iter last.2 items (λ l n. EndInError l g.E.From.from_gives c.in-Error.error) gave ended;
+      items = (items, c.pour.new.iter, gave, ended);
+      runs = some_from_yields steps c.args.iter c.pour.new.iter items (λ l n. EndInError l g.E.From.from_gives c.in-Error.error) gave ended;
     }
 
 pub returns-in-Refused : goal.returns-in-Refused
@@ -36,7 +36,7 @@ returns-in-Refused g c =
     let read = c.in-Refused.ensures.items in
     let last = read.2.0 in
     let steps = g.I.Iterator.next_gives in
-    let gave = results_from_reads steps (λ x. x) (λ x. refl) c.args.iter last.0 read.0 last.3 in
+    let gave = results_from_reads steps (λ x. x) (λ x. refl) c.args.iter last.0 read.0 last.2 in
     let ended = inr (c.in-Refused.oom, c.from.ensures) in
     record {
       items = (map Ok read.0, last.0, gave, ended);
