@@ -15,7 +15,8 @@ use std::alloc::Global;
 use wic_base::OutOfMemory;
 use wic_vec::TryVec;
 
-/// The slice of all items of `iter`, in order.
+/// Returns the slice of all items of `iter`, in order. If it is out of memory, the items that were read are dropped.
+/// Amortised constant time for each item.
 ///
 /// A port of `wasmtime_internal_core::alloc::new_boxed_slice_from_iter`.
 pub fn new_boxed_slice_from_iter<T: Drop, I: IntoIterator<Item = T>>(
@@ -23,15 +24,17 @@ pub fn new_boxed_slice_from_iter<T: Drop, I: IntoIterator<Item = T>>(
     iter: I,
 ) -> Result<BoxedSlice<T>, OutOfMemory>
     requires ready { IsReady I.into_iter_gives I.IntoIter.can_next iter }
-    ensures items { IfOk result (λ s. BecomesOne I.into_iter_gives iter (λ it. Drains I.IntoIter.next_gives it s)) }
+    ensures items { IfOk result (λ s. BecomesOne I.into_iter_gives iter
+        (λ it. Drains I.IntoIter.next_gives it s)) }
     ensures runs { IfOk result (λ s. BecomesOne I.into_iter_gives iter
         (λ it. WholeRun I.IntoIter.next_gives it (λ p. s ≡ p.items))) }
 {
     TryFromIterator::<T, OutOfMemory>::try_from_iter(alloc, iter.into_iter())
 }
 
-/// The slice of the first `len` items of `iter`, in order; no more are read. `TooFewItems` comes exactly where the items
-/// end before, and want of memory before any item is read.
+/// Returns the slice of the first `len` items of `iter`, in order. No more items are read: a length of 0 asks nothing of
+/// `iter`. `TooFewItems` comes exactly if the items end before; the items that were read are then dropped. Out of memory
+/// comes before any item is read. There is one allocation.
 ///
 /// A port of `wasmtime_internal_core::alloc::new_boxed_slice_from_iter_with_len`.
 pub fn new_boxed_slice_from_iter_with_len<T: Drop, I: IntoIterator<Item = T> + Drop>(
@@ -56,8 +59,9 @@ pub fn new_boxed_slice_from_iter_with_len<T: Drop, I: IntoIterator<Item = T> + D
     }
 }
 
-/// The slice of the values of all items of `iter`, in order. The first item that is an `Err` is answered as `IterError`,
-/// and no more are read.
+/// Returns the slice of the values of all items of `iter`, in order. The first item that is an `Err` is returned as
+/// `IterError`, and no more items are read. After an error the values that were read are dropped. Amortised constant time
+/// for each item.
 ///
 /// A port of `wasmtime_internal_core::alloc::new_boxed_slice_from_fallible_iter`.
 pub fn new_boxed_slice_from_fallible_iter<T: Drop, E: Drop, I: IntoIterator<Item = Result<T, E>>>(
@@ -65,9 +69,11 @@ pub fn new_boxed_slice_from_fallible_iter<T: Drop, E: Drop, I: IntoIterator<Item
     iter: I,
 ) -> Result<BoxedSlice<T>, BoxedSliceFromFallibleIterError<E>>
     requires ready { IsReady I.into_iter_gives I.IntoIter.can_next iter }
-    ensures items { IfOk result (λ s. BecomesOne I.into_iter_gives iter (λ it. Drains I.IntoIter.next_gives it (map Ok s))) }
-    ensures first_error { IfErr result (OnIterError (λ e. BecomesOne I.into_iter_gives iter (λ it. (values : List T)
-        × (t : I.IntoIter) × Yields I.IntoIter.next_gives it (map Ok values ++ Err e ∷ []) t))) }
+    ensures items { IfOk result (λ s. BecomesOne I.into_iter_gives iter
+        (λ it. Drains I.IntoIter.next_gives it (map Ok s))) }
+    ensures first_error { IfErr result (OnIterError (λ e. BecomesOne I.into_iter_gives iter
+        (λ it. (values : List T) × (t : I.IntoIter)
+        × Yields I.IntoIter.next_gives it (map Ok values ++ Err e ∷ []) t))) }
     ensures runs { IfOk result (λ s. BecomesOne I.into_iter_gives iter
         (λ it. WholeRun I.IntoIter.next_gives it (λ p. AreValues p.items s))) }
     ensures first_error_run { IfErr result (OnIterError (λ e. BecomesOne I.into_iter_gives iter

@@ -88,7 +88,8 @@ pub fn joined(alloc: Global, xs: &[u32], ys: &[u32]) -> Result<TryVec<u32>, OutO
 // Halves at the end of a vector; never refused if there is room for all.
 pub fn extended(v: &mut TryVec<u32>, numbers: &[u32]) -> Result<(), OutOfMemory>
     ensures items { OnOk result (v.new.items ≡ v.old.items ++ map (λ x. x / 2) numbers.now) }
-    ensures never_refused_within { length v.old.items + length numbers.now ≤ v.old.capacity → IsOk result }
+    ensures never_refused_within { length v.old.items + length numbers.now ≤ v.old.capacity
+        → IsOk result }
     ensures room { v.old.capacity ≤ v.new.capacity }
 {
     v.try_extend(numbers.iter().map(|x| *x / 2))
@@ -97,7 +98,8 @@ pub fn extended(v: &mut TryVec<u32>, numbers: &[u32]) -> Result<(), OutOfMemory>
 // The first three numbers; there are too few only if there are less than three.
 pub fn first_three(alloc: Global, numbers: &[u32]) -> Result<BoxedSlice<u32>, TooFewItemsOrOom>
     ensures length { IfOk result (λ s. length s ≡ 3) }
-    ensures items { IfOk result (λ s. (k : ℕ) → k < 3 → slice_index_or s k 0 ≡ slice_index_or numbers.now k 0) }
+    ensures items { IfOk result (λ s. (k : ℕ) → k < 3
+        → slice_index_or s k 0 ≡ slice_index_or numbers.now k 0) }
     ensures too_few { IfErr result (OnTooFewItems (length numbers.now < 3)) }
 {
     new_boxed_slice_from_iter_with_len(alloc, 3, numbers.iter().copied())
@@ -109,7 +111,8 @@ pub fn filled_up(
     numbers: &[u32],
 ) -> Result<BoxedSlice<u32>, TooFewItems>
     ensures enough { builder.capacity ≤ length builder.items + length numbers.now → IsOk result }
-    ensures digits { IfOk result (λ s. (k : ℕ) → length builder.items ≤ k → k < length s → slice_index_or s k 0 < 10) }
+    ensures digits { IfOk result (λ s. (k : ℕ) → length builder.items ≤ k → k < length s
+        → slice_index_or s k 0 < 10) }
 {
     boxed_slice_write_iter(builder, numbers.iter().map(|x| *x % 10))
 }

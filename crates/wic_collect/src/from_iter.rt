@@ -10,27 +10,27 @@ use std::alloc::Global;
 use wic_base::OutOfMemory;
 use wic_vec::TryVec;
 
-/// A collection that can be made of items, unless memory is wanting or an item is an error.
+/// A collection that can be made of items. It may be out of memory, or an item may be an error.
 ///
 /// A port of `wasmtime_internal_core::alloc::TryFromIterator`.
 pub trait TryFromIterator<T, E> {
     // It was made of these items.
     ghost has: { Self → List T → Type 0 };
-    // After these items, of which the last one may be at fault, this error may be answered.
+    // After these items, of which the last one may be an error, this error may be returned.
     ghost fails: { List T → E → Type 0 };
 
-    /// A collection of all items of `iter`, in order.
-    ///
-    /// A port of `TryFromIterator::try_from_iter`.
+    /// Returns a collection of all items of `iter`, in order. After an error the items that were read are dropped.
     fn try_from_iter<I: Iterator<Item = T>>(alloc: Global, iter: I) -> Result<Self, E>
         requires ready { I.can_next iter }
-        ensures items { MatchResult result (λ made. (items : List T) × Drains I.next_gives iter items × has made items)
+        ensures items { MatchResult result
+            (λ made. (items : List T) × Drains I.next_gives iter items × has made items)
             (λ e. (items : List T) × (t : I) × Yields I.next_gives iter items t × fails items e) }
-        ensures runs { MatchResult result (λ made. WholeRun I.next_gives iter (λ p. has made p.items))
+        ensures runs { MatchResult result
+            (λ made. WholeRun I.next_gives iter (λ p. has made p.items))
             (λ e. SomeRun I.next_gives iter (λ p. fails p.items e)) };
 }
 
-/// All items. Want of memory may come after any of them.
+/// All items. It may be out of memory after any of them.
 impl<T: Drop> TryFromIterator<T, OutOfMemory> for TryVec<T> {
     ghost has = { λ v items. v.items ≡ items };
 
@@ -49,7 +49,7 @@ impl<T: Drop> TryFromIterator<T, OutOfMemory> for TryVec<T> {
     }
 }
 
-/// The values of all items. The first item that is an `Err` is answered, and no more are read.
+/// The values of all items. The first `Err` is returned, and no more items are read.
 impl<T: Drop, E: From<OutOfMemory> + Drop> TryFromIterator<Result<T, E>, E> for TryVec<T> {
     ghost has = { λ v items. AreValues items v.items };
 
@@ -69,7 +69,7 @@ impl<T: Drop, E: From<OutOfMemory> + Drop> TryFromIterator<Result<T, E>, E> for 
     }
 }
 
-/// All items. Want of memory may come after any of them.
+/// All items. It may be out of memory after any of them.
 impl<T: Drop> TryFromIterator<T, OutOfMemory> for BoxedSlice<T> {
     ghost has = { λ s items. s ≡ items };
 
@@ -84,7 +84,7 @@ impl<T: Drop> TryFromIterator<T, OutOfMemory> for BoxedSlice<T> {
     }
 }
 
-/// The values of all items. The first item that is an `Err` is answered, and no more are read.
+/// The values of all items. The first `Err` is returned, and no more items are read.
 impl<T: Drop, E: From<OutOfMemory> + Drop> TryFromIterator<Result<T, E>, E> for BoxedSlice<T> {
     ghost has = { λ s items. AreValues items s };
 
@@ -102,7 +102,8 @@ impl<T: Drop, E: From<OutOfMemory> + Drop> TryFromIterator<Result<T, E>, E> for 
     }
 }
 
-/// A collection of all items of `iter`, in order, as `B::try_from_iter` makes it.
+/// Returns a collection of all items of `iter`, in order, as `B::try_from_iter` makes it. Of items that are results it has
+/// the values: the first `Err` is returned, and no more items are read. Amortised constant time for each item.
 ///
 /// A port of `TryCollect::try_collect`.
 pub fn try_collect<B: TryFromIterator<T, E>, T, E, I: Iterator<Item = T>>(
@@ -110,7 +111,8 @@ pub fn try_collect<B: TryFromIterator<T, E>, T, E, I: Iterator<Item = T>>(
     iter: I,
 ) -> Result<B, E>
     requires ready { I.can_next iter }
-    ensures items { MatchResult result (λ made. (items : List T) × Drains I.next_gives iter items × B.has made items)
+    ensures items { MatchResult result
+        (λ made. (items : List T) × Drains I.next_gives iter items × B.has made items)
         (λ e. (items : List T) × (t : I) × Yields I.next_gives iter items t × B.fails items e) }
     ensures runs { MatchResult result (λ made. WholeRun I.next_gives iter (λ p. B.has made p.items))
         (λ e. SomeRun I.next_gives iter (λ p. B.fails p.items e)) }

@@ -32,7 +32,7 @@ returns-in-Error g c =
     let steps = g.I.IntoIter.Iterator.next_gives in
     let items = map Ok read.0 ++ Err c.in-Error.error ∷ [] in
     let gave = results_one_more steps (λ x. x) (λ x. refl) c.into_iter.result last.0 c.pour.new.iter read.0 last.1
-        (Err c.in-Error.error) last.2 last.3 last.4 in
+    (Err c.in-Error.error) last.2 last.3 last.4 in
     record {
       items = tt;
       first_error = (c.into_iter.result, c.into_iter.ensures.into_iter_gives, (read.0, c.pour.new.iter, gave));

@@ -24,7 +24,7 @@ returns-in-Error g c =
     let steps = g.I.Iterator.next_gives in
     let items = map Ok read.0 ++ Err c.in-Error.error ∷ [] in
     let gave = results_one_more steps (λ x. x) (λ x. refl) c.args.iter last.0 c.pour.new.iter read.0 last.1
-        (Err c.in-Error.error) last.2 last.3 last.4 in
+    (Err c.in-Error.error) last.2 last.3 last.4 in
     let ended = inl (end_with_error read.0 c.in-Error.error) in
     record {
       items = (items, c.pour.new.iter, gave, ended);
