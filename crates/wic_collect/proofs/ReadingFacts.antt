@@ -1,5 +1,5 @@
 -- Items that are read one after another.
-use Rattle.std.proofs.Common.{◌≡◌, List, [], ◌∷◌, ◌++◌, map, Option, Some, None, Result, Ok, refl, sym, ap, subst, ◌∙◌}
+use Rattle.std.proofs.Common.{◌≡◌, List, [], ◌∷◌, ◌++◌, map, Option, Some, Result, Ok, refl, sym, ap, subst, ◌∙◌}
 use Rattle.std.specs.Iterator.{Yields, Drains}
 use Rattle.std.proofs.iter.Next.{Yields-more}
 use Rattle.std.proofs.lemmas.List.{map-append}
@@ -18,6 +18,7 @@ module _ {S X T E : Type 0} (steps : S → Option X → S → Type 0) (as_result
 
 module _ {S X E : Type 0} (steps : S → Option X → S → Type 0) (as_result : X → Result X E) (plain : (x : X) → as_result x ≡ Ok x)
   where
+    -- if the values of items are the items, equal values make equal lists
     same_values : (items values : List X) → map as_result items ≡ map Ok values → items ≡ values
     same_values [] [] same = refl
     same_values [] (y ∷ values) same = absurd (cc)
@@ -44,6 +45,7 @@ module _ {S X E : Type 0} (steps : S → Option X → S → Type 0) (as_result :
 module _ {S T E : Type 0} (steps : S → Option (Result T E) → S → Type 0) (as_result : Result T E → Result T E)
     (as_is : (x : Result T E) → as_result x ≡ x)
   where
+    -- results that are passed on are the items
     same_items : (items : List (Result T E)) → map as_result items ≡ items
     same_items [] = refl
     same_items (x ∷ items) = λ i. as_is x i ∷ same_items items i

@@ -15,10 +15,12 @@ module _ {T E : Type 0} where
     λ k d l. ap (λ l. slice_index_or l k (Ok d)) is ∙ get_or-map Ok values k d,
   )
 
+  -- the item behind the values
   last_is : (values : List T) (r d : Result T E) → slice_index_or (map Ok values ++ r ∷ []) (length values) d ≡ r
   last_is [] r d = refl
   last_is (x ∷ values) r d = last_is values r d
 
+  -- an item before it
   ok_before : (values : List T) (r d : Result T E) (k : ℕ) → k < length values → IsOk (slice_index_or (map Ok values ++ r ∷ []) k d)
   ok_before [] r d k l = absurd (omega (arith, l))
   ok_before (x ∷ values) r d zero l = refl

@@ -1,5 +1,5 @@
 -- Items that were read, as a run of their iterator.
-use Rattle.std.proofs.Common.{◌≡◌, ℕ, List, length, Option, true, false, true≢false, Result, Ok, Err, IfOk, MatchResult, refl, sym}
+use Rattle.std.proofs.Common.{ℕ, List, length, Option, true, false, true≢false, Result, Ok, Err, IfOk, MatchResult, refl, sym}
 use Rattle.std.specs.Iterator.{Yields, Drains}
 use Rattle.std.specs.Iterator.Runs.{SomeRun, WholeRun}
 use Rattle.std.proofs.iter.runs.Made.{run, to_end}

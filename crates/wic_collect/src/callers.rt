@@ -85,12 +85,16 @@ pub fn joined(alloc: Global, xs: &[u32], ys: &[u32]) -> Result<TryVec<u32>, OutO
     try_collect(alloc, xs.iter().copied().chain(ys.iter().copied()))
 }
 
-// Halves at the end of a vector; never refused if there is room for all.
+// Halves at the end of a vector. Never refused if there is room for all; a refusal leaves the elements.
 pub fn extended(v: &mut TryVec<u32>, numbers: &[u32]) -> Result<(), OutOfMemory>
     ensures items { OnOk result (v.new.items ≡ v.old.items ++ map (λ x. x / 2) numbers.now) }
     ensures never_refused_within { length v.old.items + length numbers.now ≤ v.old.capacity
         → IsOk result }
     ensures room { v.old.capacity ≤ v.new.capacity }
+    ensures some_missing { OnErr result (length v.new.items
+        < length v.old.items + length numbers.now) }
+    ensures refusal_leaves { OnErr result ((k : ℕ) → k < length v.old.items
+        → slice_index_or v.new.items k 0 ≡ slice_index_or v.old.items k 0) }
 {
     v.try_extend(numbers.iter().map(|x| *x / 2))
 }

@@ -1,5 +1,6 @@
 //! Items put at the end of a collection.
-ghost use Rattle.std.specs.Prelude.{◌≡◌, ◌≤◌, ◌∷◌, [], ◌++◌, ℕ, List, length, MatchResult, OnOk, OnErr};
+ghost use Rattle.std.specs.Prelude.{◌≡◌, ◌+◌, ◌≤◌, ◌∷◌, [], ◌++◌, ℕ, List, length, take, MatchResult};
+ghost use Rattle.std.specs.Prelude.{OnOk, OnErr};
 ghost use Rattle.std.specs.Iterator.{Yields, Drains};
 ghost use Rattle.std.specs.Iterator.Runs.{SomeRun, WholeRun};
 ghost use Rattle.wic_vec.specs.TryVec.{HasRoomFor};
@@ -33,7 +34,8 @@ pub trait TryExtend<T> {
         ensures runs { OnOk result (BecomesOne I.into_iter_gives iter
             (λ it. WholeRun I.IntoIter.next_gives it (λ p. extends self.old p.items self.new))) }
         ensures refused_beyond_room { OnErr result (BecomesOne I.into_iter_gives iter
-            (λ it. SomeRun I.IntoIter.next_gives it (λ p. ¬ (has_room self.old p.len)))) }
+            (λ it. SomeRun I.IntoIter.next_gives it (λ p. (n : ℕ) × (p.len ≡ n + 1)
+            × extends self.old (take n p.items) self.new × ¬ (has_room self.old p.len)))) }
         ensures room_never_falls { keeps_room self.old self.new };
 }
 

@@ -1,4 +1,4 @@
-use Rattle.std.proofs.Common.{◌≡◌, ◌∷◌, [], ◌++◌, ◌+◌, ℕ, Result, map, length, Ok, Err, refl, sym, ap, subst, ◌∙◌, arith, of_calls}
+use Rattle.std.proofs.Common.{◌∷◌, [], ◌++◌, ◌+◌, ℕ, Result, map, length, Ok, Err, sym, ap, subst, ◌∙◌, arith, of_calls}
 use Rattle.std.specs.Fn.{Called}
 use Rattle.std.specs.List.{range_with_len}
 use Rattle.std.proofs.iter.Next.{called}

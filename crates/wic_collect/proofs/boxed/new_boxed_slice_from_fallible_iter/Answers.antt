@@ -1,4 +1,4 @@
-use Rattle.std.proofs.Common.{◌≡◌, ◌∷◌, [], refl, Err, Ok, map, ap, sym, subst, ◌∙◌, ◌++◌}
+use Rattle.std.proofs.Common.{◌∷◌, [], refl, Err, Ok, map, ap, sym, subst, ◌∙◌, ◌++◌}
 use Rattle.std.specs.Iterator.{Drains}
 use Rattle.wic_collect.specs.Collected.{AreValues, EndWithError}
 use Rattle.wic_collect.proofs.ReadingFacts.{drains_results, results_one_more}

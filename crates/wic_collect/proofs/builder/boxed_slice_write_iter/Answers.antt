@@ -1,4 +1,4 @@
-use Rattle.std.proofs.Common.{rules, ◌≡◌, ◌+◌, ◌<◌, ◌++◌, List, length, sym, ap, ◌∙◌, refl, Ok, arith, length-append}
+use Rattle.std.proofs.Common.{◌≡◌, ◌+◌, ◌<◌, ◌++◌, length, sym, ap, ◌∙◌, refl, Ok, arith, length-append}
 use Rattle.wic_collect.proofs.ReadingFacts.{yields_from_reads, drains_from_reads}
 use Rattle.wic_collect.proofs.RunFacts.{whole_from_drains, some_from_yields}
 use Rattle.wic_collect.proofs.builder.boxed_slice_write_iter.Goals as goal

@@ -1,4 +1,5 @@
-use Rattle.std.proofs.Common.{◌≡◌, ◌∷◌, [], ◌++◌, length, length-append, Ok, refl, ap, ◌∙◌, arith}
+use Rattle.std.proofs.Common.{◌≡◌, ◌∷◌, [], ◌++◌, length, length-append, Ok, refl, sym, ap, ◌∙◌, ◌+◌, ℕ, take, arith}
+use Rattle.std.proofs.Math.Seq.{take-append_seam}
 use Rattle.wic_vec.specs.TryVec.{HasRoomFor}
 use Rattle.wic_collect.proofs.ReadingFacts.{drains_from_reads, yields_one_more}
 use Rattle.wic_collect.proofs.RunFacts.{whole_from_drains, some_from_yields}
@@ -41,7 +42,15 @@ returns-in-Refused g c =
       refused_beyond_room = (
         c.into_iter.result,
         c.into_iter.ensures.into_iter_gives,
-        some_from_yields steps c.into_iter.result c.pour.new.iter items (λ l n. ¬ (HasRoomFor c.args.self.now n)) gave beyond,
+        some_from_yields steps c.into_iter.result c.pour.new.iter items
+            (λ l n. (k : ℕ) × (n ≡ k + 1) × (c.pour.new.to.items ≡ c.args.self.now.items ++ take k l)
+            × ¬ (HasRoomFor c.args.self.now n))
+            gave (
+              length read.0,
+              more,
+              read.1 ∙ ap (λ l. c.args.self.now.items ++ l) (sym (take-append_seam read.0 (last.1 ∷ []))),
+              beyond,
+            ),
       );
       room_never_falls = c.in-Refused.ensures.capacity_never_falls;
     }

@@ -1,4 +1,4 @@
-use Rattle.std.proofs.Common.{◌≡◌, ◌∷◌, [], ◌++◌, map, Ok, Err, inl, inr, refl, ap, sym, ◌∙◌}
+use Rattle.std.proofs.Common.{◌∷◌, [], ◌++◌, map, Ok, Err, inl, inr, refl, ap, sym, ◌∙◌}
 use Rattle.wic_collect.specs.Collected.{AreValues, EndInError}
 use Rattle.wic_collect.proofs.ReadingFacts.{drains_results, results_from_reads, results_one_more}
 use Rattle.wic_collect.proofs.ResultFacts.{are_values, end_with_error}
