@@ -1,2 +1,4 @@
-pub mod Calls
-pub mod Reading
+pub mod CallFacts
+pub mod ReadingFacts
+pub mod ResultFacts
+pub mod RunFacts

@@ -10,18 +10,18 @@ module _ {S X T E : Type 0} (steps : S → Option X → S → Type 0) (as_result
   abbrev pub Reads : S → List T → S → Type 0
   Reads s values t = (items : List X) × Yields steps s items t × (map as_result items ≡ map Ok values)
 
-  -- after such calls the items ended
-  abbrev pub ReadsAll : S → List T → Type 0
-  ReadsAll s values = (t : S) × (u : S) × Reads s values t × steps t None u
+  -- after such calls the items ended, at u
+  abbrev pub ReadsAll : S → List T → S → Type 0
+  ReadsAll s values u = (t : S) × Reads s values t × steps t None u
 
-  -- after such calls an item came of which this holds
-  abbrev pub ReadsThen : S → List T → (Result T E → Type 0) → Type 0
-  ReadsThen s values P = (t : S) × (x : X) × (u : S) × Reads s values t × steps t (Some x) u × P (as_result x)
+  -- after such calls one more took it to u, and gave an item of which this holds
+  abbrev pub ReadsThen : S → List T → S → (Result T E → Type 0) → Type 0
+  ReadsThen s values u P = (t : S) × (x : X) × Reads s values t × steps t (Some x) u × P (as_result x)
 
-  -- why no more than these values of s were put into a vector, which is now v and was to have so many at most
-  abbrev pub IsStoppedBy : Option ℕ → S → List T → TryVec T → Stop E → Type 0
-  IsStoppedBy limit s values v Full = ((t : S) × Reads s values t) × (limit ≡ Some (length v.items))
-  IsStoppedBy limit s values v Ended = ReadsAll s values × IfSome limit (λ most. length v.items < most)
-  IsStoppedBy limit s values v (Error e) = ReadsThen s values (λ r. r ≡ Err e)
-  IsStoppedBy limit s values v (Refused oom) =
-      ReadsThen s values IsOk × (length v.items ≡ v.capacity) × IfSome limit (λ most. length v.items < most)
+  -- why just these values were put into a vector, which is now v and was to have so many at most; reading them took s to u
+  abbrev pub IsStoppedBy : Option ℕ → S → List T → S → TryVec T → Stop E → Type 0
+  IsStoppedBy limit s values u v Full = Reads s values u × (limit ≡ Some (length v.items))
+  IsStoppedBy limit s values u v Ended = ReadsAll s values u × IfSome limit (λ most. length v.items < most)
+  IsStoppedBy limit s values u v (Error e) = ReadsThen s values u (λ r. r ≡ Err e)
+  IsStoppedBy limit s values u v (Refused oom) =
+      ReadsThen s values u IsOk × (length v.items ≡ v.capacity) × IfSome limit (λ most. length v.items < most)

@@ -1,7 +1,4 @@
 -- What a value is read as that becomes an iterator.
-use Rattle.std.specs.Prelude.{List}
-use Rattle.std.specs.Iterator.{Yields, Drains}
-
 module _ {U S : Type 0} (becomes : U → S → Type 0) where
   -- what it becomes may be asked for items
   abbrev pub IsReady : (S → Type 0) → U → Type 0

@@ -5,8 +5,8 @@ ghost use Rattle.wic_vec.specs.ClosureRun.{ClosureRun};
 
 use arrayvec::ArrayVec;
 
-/// The list of the `N` values that `cb` answers on 0, 1, 2 and so on, called once on each, in order. The first `Err` ends
-/// it, and is answered.
+/// Calls `cb` on 0, 1, 2 and so on, once on each, in order, and returns the list of its `N` values. The first `Err` is
+/// returned, and no call comes after it. It allocates nothing.
 ///
 /// A port of `wasmtime_internal_core::array::array_try_from_fn`, with a full list in place of an array.
 pub fn array_try_from_fn<E, T: Default + Drop, const N: usize, F: FnMut(usize) -> Result<T, E>>(
@@ -14,9 +14,11 @@ pub fn array_try_from_fn<E, T: Default + Drop, const N: usize, F: FnMut(usize) -
 ) -> Result<ArrayVec<T, N>, E>
     requires { F.IsAlwaysCallable cb }
     ensures full { IfOk result (λ list. length list.items ≡ N) }
-    ensures run { IfOk result (λ list. (last : F) × ClosureRun F.step cb (range_with_len 0 N) (map Ok list.items) last) }
+    ensures run { IfOk result (λ list. (last : F)
+        × ClosureRun F.step cb (range_with_len 0 N) (map Ok list.items) last) }
     ensures first_error { IfErr result (λ e. (values : List T) × (last : F) × (length values < N)
-        × ClosureRun F.step cb (range_with_len 0 (length values + 1)) (map Ok values ++ Err e ∷ []) last) }
+        × ClosureRun F.step cb (range_with_len 0 (length values + 1)) (map Ok values ++ Err e ∷ [])
+        last) }
 {
     let mut list = ArrayVec::new();
     for i in 0..N {

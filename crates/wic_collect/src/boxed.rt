@@ -1,6 +1,8 @@
 //! Boxed slices of the items of an iterator.
 ghost use Rattle.std.specs.Prelude.{◌≡◌, ◌<◌, ◌∷◌, [], ◌++◌, List, Ok, Err, map, length, IfOk, IfErr};
 ghost use Rattle.std.specs.Iterator.{Yields, Drains};
+ghost use Rattle.std.specs.Iterator.Runs.{SomeRun, WholeRun};
+ghost use Rattle.wic_collect.specs.Collected.{AreValues, EndWithError};
 ghost use Rattle.wic_collect.specs.Errors.{OnTooFewItems, OnIterError};
 ghost use Rattle.wic_collect.specs.Iterates.{IsReady, BecomesOne};
 
@@ -13,7 +15,8 @@ use std::alloc::Global;
 use wic_base::OutOfMemory;
 use wic_vec::TryVec;
 
-/// The slice of all items of `iter`, in order.
+/// Returns the slice of all items of `iter`, in order. If it is out of memory, the items that were read are dropped.
+/// Amortised constant time for each item.
 ///
 /// A port of `wasmtime_internal_core::alloc::new_boxed_slice_from_iter`.
 pub fn new_boxed_slice_from_iter<T: Drop, I: IntoIterator<Item = T>>(
@@ -21,13 +24,17 @@ pub fn new_boxed_slice_from_iter<T: Drop, I: IntoIterator<Item = T>>(
     iter: I,
 ) -> Result<BoxedSlice<T>, OutOfMemory>
     requires ready { IsReady I.into_iter_gives I.IntoIter.can_next iter }
-    ensures items { IfOk result (λ s. BecomesOne I.into_iter_gives iter (λ it. Drains I.IntoIter.next_gives it s)) }
+    ensures items { IfOk result (λ s. BecomesOne I.into_iter_gives iter
+        (λ it. Drains I.IntoIter.next_gives it s)) }
+    ensures runs { IfOk result (λ s. BecomesOne I.into_iter_gives iter
+        (λ it. WholeRun I.IntoIter.next_gives it (λ p. s ≡ p.items))) }
 {
     TryFromIterator::<T, OutOfMemory>::try_from_iter(alloc, iter.into_iter())
 }
 
-/// The slice of the first `len` items of `iter`, in order; no more are read. `TooFewItems` comes exactly where the items
-/// end before, and want of memory before any item is read.
+/// Returns the slice of the first `len` items of `iter`, in order. No more items are read: a length of 0 asks nothing of
+/// `iter`. `TooFewItems` comes exactly if the items end before; the items that were read are then dropped. Out of memory
+/// comes before any item is read. There is one allocation.
 ///
 /// A port of `wasmtime_internal_core::alloc::new_boxed_slice_from_iter_with_len`.
 pub fn new_boxed_slice_from_iter_with_len<T: Drop, I: IntoIterator<Item = T> + Drop>(
@@ -35,11 +42,15 @@ pub fn new_boxed_slice_from_iter_with_len<T: Drop, I: IntoIterator<Item = T> + D
     len: usize,
     iter: I,
 ) -> Result<BoxedSlice<T>, TooFewItemsOrOom>
-    requires ready { IsReady I.into_iter_gives I.IntoIter.can_next iter }
+    requires ready { 0 < len → IsReady I.into_iter_gives I.IntoIter.can_next iter }
     ensures items { IfOk result (λ s. (length s ≡ len) × BecomesOne I.into_iter_gives iter
         (λ it. (t : I.IntoIter) × Yields I.IntoIter.next_gives it s t)) }
     ensures too_few { IfErr result (OnTooFewItems (BecomesOne I.into_iter_gives iter
         (λ it. (items : List T) × Drains I.IntoIter.next_gives it items × (length items < len)))) }
+    ensures runs { IfOk result (λ s. BecomesOne I.into_iter_gives iter
+        (λ it. SomeRun I.IntoIter.next_gives it (λ p. (s ≡ p.items) × (p.len ≡ len)))) }
+    ensures too_few_run { IfErr result (OnTooFewItems (BecomesOne I.into_iter_gives iter
+        (λ it. WholeRun I.IntoIter.next_gives it (λ p. p.len < len)))) }
 {
     let builder = BoxedSliceBuilder::new(alloc, len)?;
     match boxed_slice_write_iter(builder, iter) {
@@ -48,8 +59,9 @@ pub fn new_boxed_slice_from_iter_with_len<T: Drop, I: IntoIterator<Item = T> + D
     }
 }
 
-/// The slice of the values of all items of `iter`, in order. The first item that is an `Err` is answered as `IterError`,
-/// and no more are read.
+/// Returns the slice of the values of all items of `iter`, in order. The first item that is an `Err` is returned as
+/// `IterError`, and no more items are read. After an error the values that were read are dropped. Amortised constant time
+/// for each item.
 ///
 /// A port of `wasmtime_internal_core::alloc::new_boxed_slice_from_fallible_iter`.
 pub fn new_boxed_slice_from_fallible_iter<T: Drop, E: Drop, I: IntoIterator<Item = Result<T, E>>>(
@@ -57,12 +69,18 @@ pub fn new_boxed_slice_from_fallible_iter<T: Drop, E: Drop, I: IntoIterator<Item
     iter: I,
 ) -> Result<BoxedSlice<T>, BoxedSliceFromFallibleIterError<E>>
     requires ready { IsReady I.into_iter_gives I.IntoIter.can_next iter }
-    ensures items { IfOk result (λ s. BecomesOne I.into_iter_gives iter (λ it. Drains I.IntoIter.next_gives it (map Ok s))) }
-    ensures first_error { IfErr result (OnIterError (λ e. BecomesOne I.into_iter_gives iter (λ it. (values : List T)
-        × (t : I.IntoIter) × Yields I.IntoIter.next_gives it (map Ok values ++ Err e ∷ []) t))) }
+    ensures items { IfOk result (λ s. BecomesOne I.into_iter_gives iter
+        (λ it. Drains I.IntoIter.next_gives it (map Ok s))) }
+    ensures first_error { IfErr result (OnIterError (λ e. BecomesOne I.into_iter_gives iter
+        (λ it. (values : List T) × (t : I.IntoIter)
+        × Yields I.IntoIter.next_gives it (map Ok values ++ Err e ∷ []) t))) }
+    ensures runs { IfOk result (λ s. BecomesOne I.into_iter_gives iter
+        (λ it. WholeRun I.IntoIter.next_gives it (λ p. AreValues p.items s))) }
+    ensures first_error_run { IfErr result (OnIterError (λ e. BecomesOne I.into_iter_gives iter
+        (λ it. SomeRun I.IntoIter.next_gives it (λ p. EndWithError p.items e)))) }
 {
     let mut items = TryVec::new(alloc);
-    match pour::<T, E, Result<T, E>, I::IntoIter>(&mut items, None, iter.into_iter()) {
+    match pour::<T, E, Result<T, E>, I::IntoIter>(&mut items, None, &mut iter.into_iter()) {
         Stop::Ended => match into_boxed_slice(items) {
             Ok(slice) => Ok(slice),
             Err(oom) => Err(BoxedSliceFromFallibleIterError::Oom(oom)),

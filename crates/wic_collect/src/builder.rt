@@ -1,6 +1,7 @@
 //! A slice that is made item by item.
 ghost use Rattle.std.specs.Prelude.{◌≡◌, ◌+◌, ◌<◌, ◌≤◌, ◌∷◌, [], ◌++◌, List, length, IsOk, IfOk, OnErr};
 ghost use Rattle.std.specs.Iterator.{Yields, Drains};
+ghost use Rattle.std.specs.Iterator.Runs.{SomeRun, WholeRun};
 ghost use Rattle.wic_collect.specs.Iterates.{IsReady, BecomesOne};
 
 use crate::collect::{Stop, pour};
@@ -35,9 +36,8 @@ impl<T> Model for BoxedSliceBuilder<T> {
 }
 
 impl<T> BoxedSliceBuilder<T> {
-    /// A builder of a slice of `len` items, of which it has none yet. A length of 0 is never refused.
-    ///
-    /// A port of `BoxedSliceBuilder::new`.
+    /// Returns a builder of a slice of `len` items, with no item yet. A length of 0 is never refused. It is the only
+    /// allocation of the builder.
     pub fn new(alloc: Global, len: usize) -> Result<BoxedSliceBuilder<T>, OutOfMemory>
         ensures empty { IfOk result (λ b. b.items ≡ []) }
         ensures capacity { IfOk result (λ b. b.capacity ≡ len) }
@@ -47,7 +47,7 @@ impl<T> BoxedSliceBuilder<T> {
         Ok(BoxedSliceBuilder { items, len })
     }
 
-    /// How many items there are so far. A port of `BoxedSliceBuilder::init_len`.
+    /// Returns how many items there are so far.
     pub fn init_len(&self) -> usize
         ensures length { result ≡ length self.now.items }
         ensures within { result ≤ self.now.capacity }
@@ -55,7 +55,7 @@ impl<T> BoxedSliceBuilder<T> {
         self.items.len()
     }
 
-    /// How many items the slice is to have. A port of `BoxedSliceBuilder::capacity`.
+    /// Returns how many items the slice is to have.
     pub fn capacity(&self) -> usize
         ensures capacity { result ≡ self.now.capacity }
         ensures holds_all { length self.now.items ≤ result }
@@ -63,9 +63,9 @@ impl<T> BoxedSliceBuilder<T> {
         self.len
     }
 
-    /// Puts `value` behind the items so far. It takes no memory.
+    /// Puts `value` behind the items so far. It allocates nothing.
     ///
-    /// A port of `BoxedSliceBuilder::push`, which answers want of memory where there is no place.
+    /// A port of `BoxedSliceBuilder::push`, which returns out of memory if there is no place.
     pub fn push(&mut self, value: T)
         requires { length self.old.items < self.old.capacity }
         ensures last { self.new.items ≡ self.old.items ++ value ∷ [] }
@@ -75,8 +75,6 @@ impl<T> BoxedSliceBuilder<T> {
     }
 
     /// Makes the stated length the number of items so far. It is never refused.
-    ///
-    /// A port of `BoxedSliceBuilder::shrink_to_fit`.
     pub fn shrink_to_fit(&mut self) -> Result<(), OutOfMemory>
         ensures same_items { self.new.items ≡ self.old.items }
         ensures capacity { self.new.capacity ≡ length self.new.items }
@@ -87,9 +85,9 @@ impl<T> BoxedSliceBuilder<T> {
         Ok(())
     }
 
-    /// The slice of the items, which are as many as was stated. It takes no memory.
+    /// Returns the slice of the items, which are as many as was stated. Constant time; it allocates nothing.
     ///
-    /// A port of `BoxedSliceBuilder::finish`, which panics where there are fewer.
+    /// A port of `BoxedSliceBuilder::finish`, which panics if there are fewer.
     pub fn finish(self) -> BoxedSlice<T>
         requires { length self.items ≡ self.capacity }
         ensures items { result ≡ self.items }
@@ -98,22 +96,32 @@ impl<T> BoxedSliceBuilder<T> {
     }
 }
 
-/// Fills the builder up with the first items of `iter`. No more are read than it has places for, and it takes no memory.
-/// `TooFewItems` comes exactly where the items end before: then those of the builder are dropped.
+/// Fills the builder up with the first items of `iter`, and returns the slice. No more items are read than the builder has
+/// places left: a full one asks nothing of `iter`. `TooFewItems` comes exactly if the items end before; all items are then
+/// dropped. It allocates nothing.
 ///
 /// A port of `wasmtime_internal_core::alloc::boxed_slice_write_iter`.
 pub fn boxed_slice_write_iter<T: Drop, I: IntoIterator<Item = T>>(
     builder: BoxedSliceBuilder<T>,
     iter: I,
 ) -> Result<BoxedSlice<T>, TooFewItems>
-    requires ready { IsReady I.into_iter_gives I.IntoIter.can_next iter }
-    ensures items { IfOk result (λ s. (length s ≡ builder.capacity) × BecomesOne I.into_iter_gives iter
-        (λ it. (more : List T) × (t : I.IntoIter) × Yields I.IntoIter.next_gives it more t × (s ≡ builder.items ++ more))) }
+    requires ready { length builder.items < builder.capacity
+        → IsReady I.into_iter_gives I.IntoIter.can_next iter }
+    ensures items { IfOk result (λ s. (length s ≡ builder.capacity)
+        × BecomesOne I.into_iter_gives iter (λ it. (more : List T) × (t : I.IntoIter)
+        × Yields I.IntoIter.next_gives it more t × (s ≡ builder.items ++ more))) }
     ensures too_few { OnErr result (BecomesOne I.into_iter_gives iter
-        (λ it. (more : List T) × Drains I.IntoIter.next_gives it more × (length builder.items + length more < builder.capacity))) }
+        (λ it. (more : List T) × Drains I.IntoIter.next_gives it more
+        × (length builder.items + length more < builder.capacity))) }
+    ensures runs { IfOk result (λ s. BecomesOne I.into_iter_gives iter
+        (λ it. SomeRun I.IntoIter.next_gives it (λ p. (s ≡ builder.items ++ p.items)
+        × (length builder.items + p.len ≡ builder.capacity)))) }
+    ensures too_few_run { OnErr result (BecomesOne I.into_iter_gives iter
+        (λ it. WholeRun I.IntoIter.next_gives it
+        (λ p. length builder.items + p.len < builder.capacity))) }
 {
     let BoxedSliceBuilder { mut items, len } = builder;
-    match pour::<T, OutOfMemory, T, I::IntoIter>(&mut items, Some(len), iter.into_iter()) {
+    match pour::<T, OutOfMemory, T, I::IntoIter>(&mut items, Some(len), &mut iter.into_iter()) {
         Stop::Full => Ok(BoxedSlice::of(items)),
         Stop::Ended => Err(TooFewItems),
         Stop::Error(_) | Stop::Refused(_) => unreachable!(),

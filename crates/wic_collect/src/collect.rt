@@ -1,5 +1,5 @@
 //! Items of an iterator put into a vector: the one loop that all calls of this crate stand on.
-ghost use Rattle.std.specs.Prelude.{◌≡◌, ◌≤◌, ◌++◌, List, Result, Ok, length, IfSome};
+ghost use Rattle.std.specs.Prelude.{◌≡◌, ◌<◌, ◌≤◌, ◌++◌, List, Result, Ok, length, IfSome};
 ghost use Rattle.wic_collect.specs.Collect.{IsStoppedBy};
 
 use std::alloc::Global;
@@ -39,21 +39,21 @@ pub(crate) enum Stop<E> {
     Ended,
     /// An item was this error.
     Error(E),
-    /// An item was read, and there was no memory for it.
+    /// An item was read, and no memory was got for it.
     Refused(OutOfMemory),
 }
 
 /// Puts the values of the items of `iter` at the end of `to`, in order, until `to` has `limit` elements, the items end,
-/// one of them is an `Err`, or memory is wanting.
+/// one of them is an `Err`, or the call is out of memory. No more items are read: `iter` goes on behind the last one.
 pub(crate) fn pour<T: Drop, E, X: IntoResult<T, E>, I: Iterator<Item = X>>(
     to: &mut TryVec<T>,
     limit: Option<usize>,
-    mut iter: I,
+    iter: &mut I,
 ) -> Stop<E>
-    requires ready { I.can_next iter }
+    requires ready { IfSome limit (λ most. length to.old.items < most) → I.can_next iter.old }
     requires within { IfSome limit (λ most. length to.old.items ≤ most) }
     ensures items { (values : List T) × (to.new.items ≡ to.old.items ++ values)
-        × IsStoppedBy I.next_gives X.as_result limit iter values to.new result }
+        × IsStoppedBy I.next_gives X.as_result limit iter.old values iter.new to.new result }
     ensures capacity_never_falls { to.old.capacity ≤ to.new.capacity }
 {
     while limit != Some(to.len()) {

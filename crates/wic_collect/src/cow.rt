@@ -31,12 +31,12 @@ pub type TryCowStr<'a> = TryCowOf<&'a str, TryString>;
 /// A slice that is borrowed until it has to be owned.
 pub type TryCowSlice<'a, T> = TryCowOf<&'a [T], TryVec<T>>;
 
-/// A reference to what can be owned as an `O`, unless memory is wanting.
+/// A reference whose content can be copied into an owned `O`.
 pub trait TryToOwned<O>: Copy {
     // The owned one has the same content as what the reference refers to.
     ghost same: { Self → O → Type 0 };
 
-    /// A content of its own, the same as the one behind the reference.
+    /// Returns an owned copy, the same as the content behind the reference.
     fn try_to_owned(self, alloc: Global) -> Result<O, OutOfMemory>
         ensures same { IfOk result (same self) };
 }
@@ -68,9 +68,8 @@ impl<'a, T: TryClone> TryToOwned<TryVec<T>> for &'a [T] {
 impl<R: TryToOwned<O>, O: Drop> TryCowOf<R, O> {
     ghost use Rattle.wic_collect.specs.CowLends.{lends_owned, lends_owned_or_stays};
 
-    /// What the cow owns, to be read and written: what is written there is what it then owns. A borrowed content is
-    /// made an owned one first, the same as it. It is refused only where the content was borrowed: then the cow is as
-    /// before.
+    /// Returns what the cow owns, to be read and written. Writes through it change the cow. A borrowed content is copied
+    /// into an owned one first. It is refused only if the content was borrowed; a refusal leaves the cow as it was.
     ///
     /// A port of `TryCow::to_mut`.
     pub fn to_mut(&mut self, alloc: Global) -> Result<&mut O, OutOfMemory>
@@ -97,8 +96,8 @@ impl<R: TryToOwned<O>, O: Drop> TryCowOf<R, O> {
         }
     }
 
-    /// The content as an owned one: the one that the cow owns, or one that is the same as what it borrows. It is refused
-    /// only where the content was borrowed.
+    /// Returns the content as an owned one: the one that the cow owns, or a copy of what it borrows. It is refused only if
+    /// the content was borrowed.
     ///
     /// A port of `TryCow::into_owned`.
     pub fn into_owned(self, alloc: Global) -> Result<O, OutOfMemory>
@@ -121,7 +120,7 @@ impl<R: TryToOwned<O>, O> From<R> for TryCowOf<R, O> {
     }
 }
 
-/// A copy borrows the same, or owns the same content. It is never refused where the content is borrowed.
+/// A copy borrows the same, or owns the same content. It is never refused if the content is borrowed.
 impl<R: TryToOwned<O> + Drop, O: TryClone> TryClone for TryCowOf<R, O> {
     ghost same = { SameCow (λ r s. r ≡ s) O.same };
 

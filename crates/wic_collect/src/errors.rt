@@ -80,7 +80,7 @@ impl<E> From<OutOfMemory> for BoxedSliceFromFallibleIterError<E> {
 impl BoxedSliceFromFallibleIterError<OutOfMemory> {
     ghost use Rattle.wic_collect.specs.Errors.{Holds};
 
-    /// The want of memory that either variant holds.
+    /// Returns the `OutOfMemory` that either variant holds.
     ///
     /// A port of `BoxedSliceFromFallibleIterError::flatten`.
     pub fn flatten(self) -> OutOfMemory

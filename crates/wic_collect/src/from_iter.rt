@@ -1,7 +1,8 @@
 //! Collections made of the items of an iterator.
 ghost use Rattle.std.specs.Prelude.{⊤, ◌≡◌, ◌∷◌, [], ◌++◌, ◌⊎◌, List, Ok, Err, map, MatchResult};
 ghost use Rattle.std.specs.Iterator.{Yields, Drains};
-ghost use Rattle.wic_collect.specs.Collected.{EndsInError};
+ghost use Rattle.std.specs.Iterator.Runs.{SomeRun, WholeRun};
+ghost use Rattle.wic_collect.specs.Collected.{AreValues, EndInError};
 
 use crate::collect::{Stop, pour};
 use crate::slice::{BoxedSlice, into_boxed_slice};
@@ -9,25 +10,27 @@ use std::alloc::Global;
 use wic_base::OutOfMemory;
 use wic_vec::TryVec;
 
-/// A collection that can be made of items, unless memory is wanting or an item is an error.
+/// A collection that can be made of items. It may be out of memory, or an item may be an error.
 ///
 /// A port of `wasmtime_internal_core::alloc::TryFromIterator`.
 pub trait TryFromIterator<T, E> {
     // It was made of these items.
     ghost has: { Self → List T → Type 0 };
-    // After these items, of which the last one may be at fault, this error may be answered.
+    // After these items, of which the last one may be an error, this error may be returned.
     ghost fails: { List T → E → Type 0 };
 
-    /// A collection of all items of `iter`, in order.
-    ///
-    /// A port of `TryFromIterator::try_from_iter`.
+    /// Returns a collection of all items of `iter`, in order. After an error the items that were read are dropped.
     fn try_from_iter<I: Iterator<Item = T>>(alloc: Global, iter: I) -> Result<Self, E>
         requires ready { I.can_next iter }
-        ensures items { MatchResult result (λ made. (items : List T) × Drains I.next_gives iter items × has made items)
-            (λ e. (items : List T) × (t : I) × Yields I.next_gives iter items t × fails items e) };
+        ensures items { MatchResult result
+            (λ made. (items : List T) × Drains I.next_gives iter items × has made items)
+            (λ e. (items : List T) × (t : I) × Yields I.next_gives iter items t × fails items e) }
+        ensures runs { MatchResult result
+            (λ made. WholeRun I.next_gives iter (λ p. has made p.items))
+            (λ e. SomeRun I.next_gives iter (λ p. fails p.items e)) };
 }
 
-/// All items. Want of memory may come after any of them.
+/// All items. It may be out of memory after any of them.
 impl<T: Drop> TryFromIterator<T, OutOfMemory> for TryVec<T> {
     ghost has = { λ v items. v.items ≡ items };
 
@@ -35,10 +38,10 @@ impl<T: Drop> TryFromIterator<T, OutOfMemory> for TryVec<T> {
 
     fn try_from_iter<I: Iterator<Item = T>>(
         alloc: Global,
-        iter: I,
+        mut iter: I,
     ) -> Result<TryVec<T>, OutOfMemory> {
         let mut items = TryVec::new(alloc);
-        match pour::<T, OutOfMemory, T, I>(&mut items, None, iter) {
+        match pour::<T, OutOfMemory, T, I>(&mut items, None, &mut iter) {
             Stop::Ended => Ok(items),
             Stop::Refused(oom) => Err(oom),
             Stop::Full | Stop::Error(_) => unreachable!(),
@@ -46,18 +49,18 @@ impl<T: Drop> TryFromIterator<T, OutOfMemory> for TryVec<T> {
     }
 }
 
-/// The values of all items. The first item that is an `Err` is answered, and no more are read.
+/// The values of all items. The first `Err` is returned, and no more items are read.
 impl<T: Drop, E: From<OutOfMemory> + Drop> TryFromIterator<Result<T, E>, E> for TryVec<T> {
-    ghost has = { λ v items. items ≡ map Ok v.items };
+    ghost has = { λ v items. AreValues items v.items };
 
-    ghost fails = { EndsInError E.from_gives };
+    ghost fails = { λ items e. EndInError items E.from_gives e };
 
     fn try_from_iter<I: Iterator<Item = Result<T, E>>>(
         alloc: Global,
-        iter: I,
+        mut iter: I,
     ) -> Result<TryVec<T>, E> {
         let mut items = TryVec::new(alloc);
-        match pour::<T, E, Result<T, E>, I>(&mut items, None, iter) {
+        match pour::<T, E, Result<T, E>, I>(&mut items, None, &mut iter) {
             Stop::Ended => Ok(items),
             Stop::Error(error) => Err(error),
             Stop::Refused(oom) => Err(E::from(oom)),
@@ -66,7 +69,7 @@ impl<T: Drop, E: From<OutOfMemory> + Drop> TryFromIterator<Result<T, E>, E> for 
     }
 }
 
-/// All items. Want of memory may come after any of them.
+/// All items. It may be out of memory after any of them.
 impl<T: Drop> TryFromIterator<T, OutOfMemory> for BoxedSlice<T> {
     ghost has = { λ s items. s ≡ items };
 
@@ -81,11 +84,11 @@ impl<T: Drop> TryFromIterator<T, OutOfMemory> for BoxedSlice<T> {
     }
 }
 
-/// The values of all items. The first item that is an `Err` is answered, and no more are read.
+/// The values of all items. The first `Err` is returned, and no more items are read.
 impl<T: Drop, E: From<OutOfMemory> + Drop> TryFromIterator<Result<T, E>, E> for BoxedSlice<T> {
-    ghost has = { λ s items. items ≡ map Ok s };
+    ghost has = { λ s items. AreValues items s };
 
-    ghost fails = { EndsInError E.from_gives };
+    ghost fails = { λ items e. EndInError items E.from_gives e };
 
     fn try_from_iter<I: Iterator<Item = Result<T, E>>>(
         alloc: Global,
@@ -99,7 +102,8 @@ impl<T: Drop, E: From<OutOfMemory> + Drop> TryFromIterator<Result<T, E>, E> for 
     }
 }
 
-/// A collection of all items of `iter`, in order, as `B::try_from_iter` makes it.
+/// Returns a collection of all items of `iter`, in order, as `B::try_from_iter` makes it. Of items that are results it has
+/// the values: the first `Err` is returned, and no more items are read. Amortised constant time for each item.
 ///
 /// A port of `TryCollect::try_collect`.
 pub fn try_collect<B: TryFromIterator<T, E>, T, E, I: Iterator<Item = T>>(
@@ -107,8 +111,11 @@ pub fn try_collect<B: TryFromIterator<T, E>, T, E, I: Iterator<Item = T>>(
     iter: I,
 ) -> Result<B, E>
     requires ready { I.can_next iter }
-    ensures items { MatchResult result (λ made. (items : List T) × Drains I.next_gives iter items × B.has made items)
+    ensures items { MatchResult result
+        (λ made. (items : List T) × Drains I.next_gives iter items × B.has made items)
         (λ e. (items : List T) × (t : I) × Yields I.next_gives iter items t × B.fails items e) }
+    ensures runs { MatchResult result (λ made. WholeRun I.next_gives iter (λ p. B.has made p.items))
+        (λ e. SomeRun I.next_gives iter (λ p. B.fails p.items e)) }
 {
     B::try_from_iter(alloc, iter)
 }

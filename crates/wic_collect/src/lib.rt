@@ -1,16 +1,24 @@
-//! Items of iterators collected into vectors and slices, where growth can be refused, and content that is borrowed until
-//! it has to be owned.
+//! Items of iterators collected into vectors and slices whose growth can be refused, and content that is borrowed until it
+//! has to be owned.
 //!
-//! A call that reads to the end answers Ok exactly with the items that the iterator gave, in order. `shout` of the callers
-//! is proved to put one more character behind a text, be it borrowed or owned, or to leave the text as it was:
+//! A call that reads to the end returns Ok exactly with the items that the iterator gave, in order. A call with a stated
+//! length reads that many. The caller `halves` is proved with no proof of its own:
 //!
 //! ```text
-//! cow.to_mut(alloc)?.push_str("!")
+//! pub fn halves(alloc: Global, numbers: &[u32]) -> Result<TryVec<u32>, OutOfMemory>
+//!     ensures items { IfOk result (λ v. v.items ≡ map (λ x. x / 2) numbers.now) }
+//! {
+//!     try_collect(alloc, numbers.iter().map(|x| *x / 2))
+//! }
 //! ```
 //!
-//! Room is taken as items come, and never by what an iterator says of its length, so a wrong hint costs nothing. No call
-//! asks that an iterator ends: one that doesn't is read until memory ends. No contract says that an item was left unread;
-//! tests show it. Collecting costs amortised constant time an item, and `finish` of a builder nothing.
+//! Each call says what it read as a run of its iterator (the clauses `runs`). The check follows a run through `map`,
+//! `filter`, `take`, `zip`, `enumerate`, `rev` and `chain`, so callers of such chains mostly need no proof; the file
+//! `callers` has one of each. Over results, `AreValues` and `EndWithError` say what was read place by place.
+//!
+//! Room is taken as items come, and never by the size hint of an iterator, so a wrong hint costs nothing. No call
+//! requires that an iterator ends: one that doesn't is read until the call is out of memory. Which items stay unread is
+//! tested; the contracts say that a slice of no items needs nothing of its iterator.
 #![tactic(auto)]
 
 mod array;

@@ -6,7 +6,7 @@ use std::alloc::Global;
 use wic_base::OutOfMemory;
 use wic_vec::{TryClone, TryString, TryVec};
 
-/// A text of its own with the characters of `s`.
+/// Returns an owned text with the characters of `s`.
 ///
 /// A port of `try_to_owned` of a text.
 pub fn str_to_owned(alloc: Global, s: &str) -> Result<TryString, OutOfMemory>
@@ -15,7 +15,7 @@ pub fn str_to_owned(alloc: Global, s: &str) -> Result<TryString, OutOfMemory>
     TryString::try_from_str(alloc, s)
 }
 
-/// A vector with as many elements, each with the same content as the one at its place.
+/// Returns a vector with a copy of each element of `s`, in order.
 ///
 /// A port of `try_to_owned` of a slice.
 pub fn slice_to_owned<T: TryClone>(alloc: Global, s: &[T]) -> Result<TryVec<T>, OutOfMemory>

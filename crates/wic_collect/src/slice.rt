@@ -23,21 +23,21 @@ impl<T> Model for BoxedSlice<T> {
 }
 
 impl<T> BoxedSlice<T> {
-    /// The elements in place.
+    /// Returns the elements in place.
     pub fn as_slice(&self) -> &[T]
         ensures items { result.now ≡ self.now }
     {
         self.items.as_slice()
     }
 
-    /// The number of elements.
+    /// Returns the number of elements.
     pub fn len(&self) -> usize
         ensures length { result ≡ length self.now }
     {
         self.items.len()
     }
 
-    /// The elements as a vector, in the same memory.
+    /// Returns the elements as a vector, in the same memory.
     pub fn into_vec(self) -> TryVec<T>
         ensures items { result.items ≡ self }
     {
@@ -52,7 +52,7 @@ impl<T> BoxedSlice<T> {
     }
 }
 
-/// The slice of the elements of `v`. It is never refused.
+/// Returns the slice of the elements of `v`. It is never refused, and gives back the room that `v` doesn't use.
 ///
 /// A port of `TryVec::into_boxed_slice`.
 pub fn into_boxed_slice<T: Drop>(mut v: TryVec<T>) -> Result<BoxedSlice<T>, OutOfMemory>

@@ -38,7 +38,7 @@ fn vectors_and_texts_become_boxed(rt: HostRuntime) -> Result<(), Fail> {
     assert_eq!(rt; into_boxed_slice(units)?.len(), 1);
     let text = into_boxed_str(str_to_owned(alloc, "ab")?)?;
     assert_eq!(rt; text.as_str(), "ab");
-    assert_eq!(rt; text.try_clone(alloc)?.into_string().len(), text.len());
+    assert_eq!(rt; text.try_clone(alloc)?.into_string().as_str(), "ab");
     assert_eq!(rt;
         slice_to_owned(alloc, [1, 2].as_slice())?,
         list(alloc, &[1, 2])?
@@ -80,10 +80,60 @@ fn a_stated_length_reads_no_more_items(rt: HostRuntime) -> Result<(), Fail> {
         );
         assert_eq!(rt; numbers.next(), left, "after a length of {len}");
     }
+    Ok(())
+}
+
+#[test]
+fn a_slice_of_a_stated_length_reads_no_more_items(rt: HostRuntime) -> Result<(), Fail> {
+    let alloc = rt.alloc();
+    for (len, items, left) in [
+        (3, Some([1, 2, 3].as_slice()), None),
+        (4, None, None),
+        (2, Some([1, 2].as_slice()), Some(3)),
+        (0, Some([].as_slice()), Some(1)),
+    ] {
+        let mut numbers = [1u32, 2, 3].into_iter();
+        let made = new_boxed_slice_from_iter_with_len(alloc, len, &mut numbers);
+        assert_eq!(rt;
+            made.as_ref().ok().map(|s| s.as_slice()),
+            items,
+            "a length of {len}"
+        );
+        assert_eq!(rt; numbers.next(), left, "after a length of {len}");
+    }
+    Ok(())
+}
+
+#[test]
+fn a_stated_length_is_that_of_the_slice(rt: HostRuntime) -> Result<(), Fail> {
+    let alloc = rt.alloc();
+    let numbers = [42, 36, 1337];
+    let all = new_boxed_slice_from_iter_with_len(alloc, 3, numbers.into_iter());
+    assert!(rt; all.is_ok_and(|s| s.as_slice() == [42, 36, 1337].as_slice()));
+    let few = new_boxed_slice_from_iter_with_len(alloc, 4, numbers.into_iter());
+    assert!(rt; matches!(few, Err(TooFewItemsOrOom::TooFewItems(_))));
     let units = new_boxed_slice_from_iter_with_len(alloc, 2, [(), ()].into_iter());
     assert!(rt; units.is_ok_and(|s| s.len() == 2));
-    let few = new_boxed_slice_from_iter_with_len(alloc, 4, [42, 36, 1337].into_iter());
-    assert!(rt; matches!(few, Err(TooFewItemsOrOom::TooFewItems(_))));
+    Ok(())
+}
+
+#[test]
+fn items_that_are_not_taken_stay_in_the_iterator(rt: HostRuntime) -> Result<(), Fail> {
+    let alloc = rt.alloc();
+    let two = [1u32, 2].as_slice();
+    let mut numbers = [1u32, 2, 3].into_iter();
+    let vector: TryVec<u32> = try_collect(alloc, numbers.by_ref().take(2))?;
+    assert_eq!(rt; (vector.as_slice(), numbers.next()), (two, Some(3)));
+    let mut numbers = [1u32, 2, 3].into_iter();
+    let boxed: BoxedSlice<u32> = try_collect(alloc, numbers.by_ref().take(2))?;
+    assert_eq!(rt; (boxed.as_slice(), numbers.next()), (two, Some(3)));
+    let mut numbers = [1u32, 2, 3].into_iter();
+    let boxed = new_boxed_slice_from_iter(alloc, numbers.by_ref().take(2))?;
+    assert_eq!(rt; (boxed.as_slice(), numbers.next()), (two, Some(3)));
+    let mut numbers = [1u32, 2, 3].into_iter();
+    let mut vector = TryVec::new(alloc);
+    vector.try_extend(numbers.by_ref().take(2))?;
+    assert_eq!(rt; (vector.as_slice(), numbers.next()), (two, Some(3)));
     Ok(())
 }
 
@@ -94,6 +144,9 @@ fn the_first_error_ends_the_reading(rt: HostRuntime) -> Result<(), Fail> {
     let made = new_boxed_slice_from_fallible_iter(alloc, &mut items);
     assert!(rt; matches!(made, Err(BoxedSliceFromFallibleIterError::IterError(2))));
     assert_eq!(rt; items.next(), Some(Ok(3)));
+    let last = [Ok(10u32), Ok(20), Err(30u32)].into_iter();
+    let made = new_boxed_slice_from_fallible_iter(alloc, last);
+    assert!(rt; matches!(made, Err(BoxedSliceFromFallibleIterError::IterError(30))));
     let made = new_boxed_slice_from_fallible_iter(
         alloc,
         [Ok::<u32, u32>(10), Ok(20), Ok(30)].into_iter(),
@@ -113,8 +166,8 @@ fn items_are_collected_in_order(rt: HostRuntime) -> Result<(), Fail> {
     let boxed: BoxedSlice<i32> = try_collect(alloc, 0..10)?;
     assert_eq!(rt; boxed.as_slice(), digits);
     assert_eq!(rt;
-        new_boxed_slice_from_iter(alloc, [10, 20, 30].into_iter())?.len(),
-        3
+        new_boxed_slice_from_iter(alloc, [10, 20, 30].into_iter())?.as_slice(),
+        [10, 20, 30].as_slice()
     );
     let none = new_boxed_slice_from_iter(alloc, (0..1000000).filter(|_| false))?;
     assert_eq!(rt; none.len(), 0);
@@ -156,6 +209,20 @@ fn results_are_collected_up_to_the_first_error(rt: HostRuntime) -> Result<(), Fa
         let boxed: Result<BoxedSlice<i32>, Refusal> = try_collect(alloc, results);
         assert!(rt; boxed.as_ref().map(|s| s.as_slice()) == values.as_ref().copied());
     }
+    Ok(())
+}
+
+#[test]
+fn items_after_the_first_error_stay_in_the_iterator(rt: HostRuntime) -> Result<(), Fail> {
+    let alloc = rt.alloc();
+    let mut items = [Ok(1u32), Err(Refusal::Number(2)), Ok(3)].into_iter();
+    let vector: Result<TryVec<u32>, Refusal> = try_collect(alloc, &mut items);
+    assert!(rt; matches!(vector, Err(Refusal::Number(2))));
+    assert_eq!(rt; items.next(), Some(Ok(3)));
+    let mut items = [Ok(1u32), Err(Refusal::Number(2)), Ok(3)].into_iter();
+    let boxed: Result<BoxedSlice<u32>, Refusal> = try_collect(alloc, &mut items);
+    assert!(rt; matches!(boxed, Err(Refusal::Number(2))));
+    assert_eq!(rt; items.next(), Some(Ok(3)));
     Ok(())
 }
 
@@ -231,9 +298,11 @@ fn cows_are_owned_when_written(rt: HostRuntime) -> Result<(), Fail> {
     let five = 5u32;
     let mut number = TryCow::from(&five);
     *number.to_mut(alloc)? = 6;
-    assert_eq!(rt; (*number.get(), five), (6, 5));
+    assert!(rt; matches!(number, TryCowOf::Owned(6)));
+    assert_eq!(rt; five, 5);
     let mut eight = TryCowSlice::from([8u32].as_slice());
     eight.to_mut(alloc)?.push(9)?;
+    assert!(rt; matches!(eight, TryCowOf::Owned(_)));
     assert_eq!(rt; eight.as_slice(), [8, 9].as_slice());
     assert_eq!(rt;
         TryCowSlice::Borrowed([42, 36].as_slice()).into_owned(alloc)?,
@@ -257,12 +326,14 @@ fn copies_of_cows_keep_the_form(rt: HostRuntime) -> Result<(), Fail> {
     assert_eq!(rt; hash_of(&borrowed), hash_of(&owned));
     let (borrowed, owned) = (TryCow::Borrowed(&1u32), TryCow::Owned(1));
     assert!(rt; matches!(borrowed.try_clone(alloc)?, TryCowOf::Borrowed(1)));
-    assert!(rt; owned.try_clone(alloc)? == borrowed && hash_of(&borrowed) == hash_of(&owned));
+    assert!(rt; matches!(owned.try_clone(alloc)?, TryCowOf::Owned(1)));
+    assert!(rt; owned == borrowed && hash_of(&borrowed) == hash_of(&owned));
     let (borrowed, owned) = (
         TryCowSlice::Borrowed([1u32, 2].as_slice()),
         TryCowSlice::Owned(list(alloc, &[1, 2])?),
     );
+    assert!(rt; matches!(borrowed.try_clone(alloc)?, TryCowOf::Borrowed([1, 2])));
     assert!(rt; matches!(owned.try_clone(alloc)?, TryCowOf::Owned(_)));
-    assert!(rt; borrowed.try_clone(alloc)? == owned && hash_of(&borrowed) == hash_of(&owned));
+    assert!(rt; owned.try_clone(alloc)? == borrowed && hash_of(&borrowed) == hash_of(&owned));
     Ok(())
 }

@@ -23,21 +23,21 @@ impl Model for BoxedStr {
 }
 
 impl BoxedStr {
-    /// The text in place.
+    /// Returns the text in place.
     pub fn as_str(&self) -> &str
         ensures text { result.now ≡ self.now }
     {
         self.text.as_str()
     }
 
-    /// The number of bytes of the text.
+    /// Returns the number of bytes of the text.
     pub fn len(&self) -> usize
         ensures length { result ≡ length self.now }
     {
         self.text.len()
     }
 
-    /// The text as one that can grow, in the same memory.
+    /// Returns the text as one that can grow, in the same memory.
     pub fn into_string(self) -> TryString
         ensures text { result.bytes ≡ self }
     {
@@ -45,7 +45,7 @@ impl BoxedStr {
     }
 }
 
-/// The text of `s`. It is never refused.
+/// Returns the text of `s`. It is never refused, and gives back the room that `s` doesn't use.
 ///
 /// A port of `TryString::into_boxed_str`.
 pub fn into_boxed_str(mut s: TryString) -> Result<BoxedStr, OutOfMemory>

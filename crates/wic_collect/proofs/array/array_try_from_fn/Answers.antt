@@ -1,10 +1,10 @@
-use Rattle.std.proofs.Common.{◌≡◌, ◌∷◌, [], ◌++◌, ◌+◌, ℕ, Result, map, length, Ok, Err, refl, sym, ap, subst, ◌∙◌, arith, of_calls}
+use Rattle.std.proofs.Common.{◌∷◌, [], ◌++◌, ◌+◌, ℕ, Result, map, length, Ok, Err, sym, ap, subst, ◌∙◌, arith, of_calls}
 use Rattle.std.specs.Fn.{Called}
 use Rattle.std.specs.List.{range_with_len}
 use Rattle.std.proofs.iter.Next.{called}
 use Rattle.std.proofs.lemmas.List.{length_push, map-append}
 use Rattle.wic_vec.specs.ClosureRun.{ClosureRun}
-use Rattle.wic_collect.proofs.Calls.{one_more_call}
+use Rattle.wic_collect.proofs.CallFacts.{one_more_call}
 use Rattle.wic_collect.proofs.array.array_try_from_fn.Goals as goal
 
 pub returns-in-Err-clause-first_error : goal.returns-in-Err-clause-first_error

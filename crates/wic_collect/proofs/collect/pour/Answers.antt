@@ -1,6 +1,6 @@
-use Rattle.std.proofs.Common.{◌≡◌, ◌∷◌, [], ◌++◌, rules, arith, sym, ap, ◌∙◌, append_assoc}
+use Rattle.std.proofs.Common.{◌∷◌, [], ◌++◌, rules, arith, sym, ap, ◌∙◌, append_assoc}
 use Rattle.std.proofs.lemmas.Grind.{common_steps}
-use Rattle.wic_collect.proofs.Reading.{reads_more}
+use Rattle.wic_collect.proofs.ReadingFacts.{reads_more}
 use Rattle.wic_collect.proofs.collect.pour.Goals as goal
 
 pub loop-limit-preserved : goal.loop-limit-preserved
@@ -14,7 +14,7 @@ loop-limit-preserved g c =
       read = (
         at.read.0 ++ c.in-Ok.value ∷ [],
         put.last ∙ ap (λ l. l ++ c.in-Ok.value ∷ []) at.read.1 ∙ append_assoc _ at.read.0 _,
-        reads_more g.I.Iterator.next_gives g.X.IntoResult.as_result c.args.iter c.loop-limit.iter c.next.new.self
+        reads_more g.I.Iterator.next_gives g.X.IntoResult.as_result c.args.iter.now c.loop-limit.iter c.next.new.self
             at.read.0 c.in-Some.item c.in-Ok.value at.read.2 c.in-Some.ensures.steps (sym c.into_result.ensures ∙ c.in-Ok.is),
       );
     }

@@ -1,10 +1,10 @@
-use Rattle.std.proofs.Common.{◌≡◌, ◌-◌, ◌≤◌, ◌^◌, ◌++◌, List, length, IfSome}
+use Rattle.std.proofs.Common.{◌≡◌, ◌-◌, ◌<◌, ◌≤◌, ◌^◌, ◌++◌, List, length, IfSome}
 use Rattle.wic_collect.specs.Collect.{Reads}
 use Rattle.wic_collect.proofs.collect.pour.Given as goal
 
 abbrev pub invariant-loop-limit : goal.invariant-loop-limit
 invariant-loop-limit g l = record {
-  ready : g.I.Iterator.can_next l.iter;
+  ready : IfSome l.limit (λ most. length l.to.items < most) → g.I.Iterator.can_next l.iter;
   within : IfSome l.limit (λ most. length l.to.items ≤ most);
   capacity : l.initial.to.capacity ≤ l.to.capacity;
   read : (values : List g.row.T.Denot) × (l.to.items ≡ l.initial.to.items ++ values)

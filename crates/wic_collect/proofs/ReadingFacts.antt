@@ -1,5 +1,5 @@
 -- Items that are read one after another.
-use Rattle.std.proofs.Common.{◌≡◌, List, [], ◌∷◌, ◌++◌, map, Option, Some, None, Result, Ok, refl, sym, ap, subst, ◌∙◌}
+use Rattle.std.proofs.Common.{◌≡◌, List, [], ◌∷◌, ◌++◌, map, Option, Some, Result, Ok, refl, sym, ap, subst, ◌∙◌}
 use Rattle.std.specs.Iterator.{Yields, Drains}
 use Rattle.std.proofs.iter.Next.{Yields-more}
 use Rattle.std.proofs.lemmas.List.{map-append}
@@ -18,6 +18,7 @@ module _ {S X T E : Type 0} (steps : S → Option X → S → Type 0) (as_result
 
 module _ {S X E : Type 0} (steps : S → Option X → S → Type 0) (as_result : X → Result X E) (plain : (x : X) → as_result x ≡ Ok x)
   where
+    -- if the values of items are the items, equal values make equal lists
     same_values : (items values : List X) → map as_result items ≡ map Ok values → items ≡ values
     same_values [] [] same = refl
     same_values [] (y ∷ values) same = absurd (cc)
@@ -33,8 +34,8 @@ module _ {S X E : Type 0} (steps : S → Option X → S → Type 0) (as_result :
     yields_from_reads s t values read = subst (λ l. Yields steps s l t) (same_values read.0 values read.2) read.1
 
     -- an iterator that was read to its end gave just these values
-    pub drains_from_reads : (s : S) (values : List X) → ReadsAll steps as_result s values → Drains steps s values
-    drains_from_reads s values read = (read.1, (read.0, yields_from_reads s read.0 values read.2, read.3))
+    pub drains_from_reads : (s u : S) (values : List X) → ReadsAll steps as_result s values u → Drains steps s values
+    drains_from_reads s u values read = (u, (read.0, yields_from_reads s read.0 values read.1, read.2))
 
     -- and one more
     pub yields_one_more : (s t u : S) (values : List X) (x : X) → Reads steps as_result s values t → steps t (Some x) u
@@ -44,6 +45,7 @@ module _ {S X E : Type 0} (steps : S → Option X → S → Type 0) (as_result :
 module _ {S T E : Type 0} (steps : S → Option (Result T E) → S → Type 0) (as_result : Result T E → Result T E)
     (as_is : (x : Result T E) → as_result x ≡ x)
   where
+    -- results that are passed on are the items
     same_items : (items : List (Result T E)) → map as_result items ≡ items
     same_items [] = refl
     same_items (x ∷ items) = λ i. as_is x i ∷ same_items items i
@@ -53,8 +55,8 @@ module _ {S T E : Type 0} (steps : S → Option (Result T E) → S → Type 0) (
     results_from_reads s t values read = subst (λ l. Yields steps s l t) (sym (same_items read.0) ∙ read.2) read.1
 
     -- an iterator over results that was read to its end gave just these values, each as an Ok
-    pub drains_results : (s : S) (values : List T) → ReadsAll steps as_result s values → Drains steps s (map Ok values)
-    drains_results s values read = (read.1, (read.0, results_from_reads s read.0 values read.2, read.3))
+    pub drains_results : (s u : S) (values : List T) → ReadsAll steps as_result s values u → Drains steps s (map Ok values)
+    drains_results s u values read = (u, (read.0, results_from_reads s read.0 values read.1, read.2))
 
     -- and one more item, as it is
     pub results_one_more : (s t u : S) (values : List T) (x r : Result T E) → Reads steps as_result s values t
