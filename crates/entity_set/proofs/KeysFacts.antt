@@ -30,13 +30,13 @@ module _ (n : ℕ) where
   below-union s t r joined one other i has = ⊎_elim (one i) (other i)
       (or_cases (contains s i) (contains t i) (sym (ap (λ x. contains x i) joined ∙ contains-union nat_cmp_total s t i) ∙ has))
 
-  -- the members that s has in common with t are below n where those of s are
+  -- the members that s has in common with t are below n if those of s are
   pub below-intersection : (s t r : FinSet nat_cmp) → r ≡ intersection s t → AllBelow n s → AllBelow n r
   below-intersection s t r met old i has =
       old i ((and_parts (contains s i) (contains t i)
       (sym (ap (λ x. contains x i) met ∙ contains-intersection nat_cmp_total s t i) ∙ has)).0)
 
-  -- the members that s has and t lacks are below n where those of s are
+  -- the members that s has and t lacks are below n if those of s are
   pub below-difference : (s t r : FinSet nat_cmp) → r ≡ difference s t → AllBelow n s → AllBelow n r
   below-difference s t r parted old i has =
       old i ((and_parts (contains s i) _ (sym (ap (λ x. contains x i) parted ∙ contains-difference nat_cmp_total s t i) ∙ has)).0)
