@@ -50,7 +50,7 @@ test_at (Def w ∷ before) after v h =
 pub test_from_exposed : (ops : List Op) (v : ℕ) → HasExposedUse ops v → exposes ops v ≡ true
 test_from_exposed ops v h = rw h.parts (test_at h.before h.after v h.undefined)
 
--- where m holds of some block among cs, there is a c that is among cs and of which m holds
+-- if m holds of some block among cs, there is a c that is among cs and of which m holds
 pub any_member : (m : ℕ → Bool) (cs : List Block) → list_any (λ s. m s.0) cs ≡ true
     → (c : ℕ) × ((list_any (λ s. nat_eq s.0 c) cs ≡ true) × (m c ≡ true))
 any_member m [] h = absurd (cc)
@@ -87,7 +87,7 @@ closed_has_path g v m within closed (c ∷ rest) b below h =
     let at_c = closed_has_path g v m within closed rest c (within b c h.1.0) h.1.1 in
     closed b below (or_right _ _ (and_from _ _ (not_from_false _ h.0) (any_from_member m _ c h.1.0 at_c)))
 
--- if each block that needs v is in m, each block where v is live is in m
+-- if each block that needs v is in m, each block at which v is live is in m
 pub closed_has_live : (g : List Body) (v : ℕ) (m : ℕ → Bool) → EdgesStayWithin g → IsClosed g v m
     → (b : ℕ) → b < length g → IsLive g v b → m b ≡ true
 closed_has_live g v m within closed b below live = closed_has_path g v m within closed live.0 b below live.1
@@ -106,10 +106,13 @@ closed_if_none g v m within none exposed b below h = ⊎_elim
 
 -- the flow equation
 pub flow : (g : List Body) (v b : ℕ) → (IsLive g v b ↔ FlowsInto g v b)
-flow g v b = (λ live. first live.0 live.1, λ flows. ⊎_elim
-    (λ exposed. ([], exposed))
-    (λ passed. (passed.1.0 ∷ passed.1.1.1.0, (passed.0, (passed.1.1.0, passed.1.1.1.1))))
-    flows)
+flow g v b = (
+  λ live. first live.0 live.1,
+  λ flows. ⊎_elim
+      (λ exposed. ([], exposed))
+      (λ passed. (passed.1.0 ∷ passed.1.1.1.0, (passed.0, (passed.1.1.0, passed.1.1.1.1))))
+      flows,
+)
   where
     first : (rest : List ℕ) → IsLivePath g v b rest → FlowsInto g v b
     first [] exposed = inl exposed

@@ -52,7 +52,7 @@ has_last (x ∷ sets) s v (suc b) last = has_last sets s v b (omega arith)
 
 -- ---- the survey
 
--- no block was looked at
+-- no block was visited
 pub surveyed_none : (g : List Body) → IsSurveyed g 0 [] []
 surveyed_none g = record {
   count_defined = refl;

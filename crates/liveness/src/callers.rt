@@ -4,12 +4,11 @@ ghost use Rattle.liveness.specs.Graph.{block, HasEdge, HasExposedUse};
 ghost use Rattle.liveness.specs.Live.{IsLive};
 
 use crate::{Block, Graph, GraphRefusal, Op, Var, law_flow};
-use entity_set::EntitySet;
-use wic_vec::TryVec;
-use entity_set::EntityRef;
+use entity_set::{EntityRef, EntitySet};
 use std::alloc::Global;
 use std::sync::ledger::Ledger;
 use wic_base::{OutOfMemory, Steps};
+use wic_vec::TryVec;
 
 // Whether the value of `v` at the start of block `b` may still be used: what a register allocator asks first.
 pub fn may_be_used<L: Ledger>(
@@ -21,14 +20,13 @@ pub fn may_be_used<L: Ledger>(
 ) -> Result<bool, OutOfMemory>
     requires { b.0 < length graph.now.blocks }
     ensures exact { IfOk result (λ live. IsTrue live ↔ IsLive graph.now.blocks v.0 b.0) }
-    ensures looks {
-        steps.new ≤ steps.old + length graph.now.blocks * (length graph.now.blocks + 1) }
+    ensures looks { steps.new ≤ steps.old + length graph.now.blocks * (length graph.now.blocks + 1) }
 {
     let sets = graph.live_in(alloc, steps)?;
     Ok(sets[b.index()].contains(v))
 }
 
-// A variable that a block without successors doesn't use is not live there.
+// Whether a variable is live at a block that has no successor and doesn't use it: it isn't, by the flow equation.
 pub fn is_used_at_exit<L: Ledger>(
     graph: &Graph,
     alloc: Global,
