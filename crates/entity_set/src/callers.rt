@@ -53,9 +53,9 @@ pub fn follow(
     Ok(())
 }
 
-// Takes the greatest key out for a while: it was below the capacity, so putting it back is never refused.
+// Takes the greatest key out for a while: it was below the capacity, so putting it back is never refused, and the set is as before.
 pub fn leave_for_a_while<K: EntityRef>(set: &mut EntitySet<K>)
-    ensures { set.new.capacity ≡ set.old.capacity }
+    ensures { set.new ≡ set.old }
 {
     if let Some(key) = set.pop() {
         set.insert(key).unwrap();

@@ -1,6 +1,6 @@
 //! Callers of the analysis, proved from its contracts alone.
-ghost use Rattle.std.specs.Prelude.{◌≡◌, ◌+◌, ◌*◌, ◌<◌, ◌≤◌, ◌↔◌, ℕ, false, length, IsTrue, IfOk};
-ghost use Rattle.liveness.specs.Graph.{block, HasEdge, HasExposedUse};
+ghost use Rattle.std.specs.Prelude.{◌≡◌, ◌+◌, ◌*◌, ◌<◌, ◌≤◌, ◌↔◌, ℕ, true, false, length, IsTrue, IfOk};
+ghost use Rattle.liveness.specs.Graph.{block, defines, HasEdge, HasExposedUse};
 ghost use Rattle.liveness.specs.Live.{IsLive};
 
 use crate::{Block, Graph, GraphRefusal, Op, Var, law_flow};
@@ -36,6 +36,23 @@ pub fn is_used_at_exit<L: Ledger>(
 ) -> Result<bool, OutOfMemory>
     requires within { b.0 < length graph.now.blocks }
     requires exit { (c : ℕ) → HasEdge graph.now.blocks b.0 c → ⊥ }
+    requires unused { HasExposedUse (block graph.now.blocks b.0).0 v.0 → ⊥ }
+    ensures { IfOk result (λ live. live ≡ false) }
+{
+    law_flow();
+    may_be_used(graph, alloc, b, v, steps)
+}
+
+// Whether a variable is live at a block that defines it and doesn't use it before: it isn't, by the flow equation.
+pub fn is_used_before_definition<L: Ledger>(
+    graph: &Graph,
+    alloc: Global,
+    b: Block,
+    v: Var,
+    steps: &mut Steps<L>,
+) -> Result<bool, OutOfMemory>
+    requires within { b.0 < length graph.now.blocks }
+    requires defined { defines (block graph.now.blocks b.0).0 v.0 ≡ true }
     requires unused { HasExposedUse (block graph.now.blocks b.0).0 v.0 → ⊥ }
     ensures { IfOk result (λ live. live ≡ false) }
 {
