@@ -15,7 +15,7 @@ use wic_vec::TryVec;
 /// The most blocks that a graph can have.
 pub const MOST_BLOCKS: usize = 4294967295;
 
-/// A block by its number: any number is one.
+/// A block by its number: each `u32` is one.
 #[derive(Clone, Copy, Debug, PartialEq, Eq, PartialOrd, Ord, Hash)]
 pub struct Block(pub u32);
 
@@ -37,7 +37,7 @@ impl EntityRef for Block {
     }
 }
 
-/// A variable by its number: any number is one.
+/// A variable by its number: each `u32` is one.
 #[derive(Clone, Copy, Debug, PartialEq, Eq, PartialOrd, Ord, Hash)]
 pub struct Var(pub u32);
 

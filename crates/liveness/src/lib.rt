@@ -30,8 +30,8 @@
 //! # Costs, and out of memory
 //!
 //! `add_block`, `add_op` and `add_edge` take amortised constant time, and leave the graph as before if they are refused. For n
-//! blocks `live_in` makes at most n (n + 1) visits, also if it is refused: this is a clause. A visit takes a step for each successor
-//! and 64 variables. `live_in` allocates two sets per block, and one that all visits use.
+//! blocks `live_in` makes at most n (n + 1) visits, also if it is refused: this is a clause. The first visit of a block reads its
+//! ops, a later one takes a step for each successor and 64 variables. It allocates two sets per block, and one for all visits.
 //!
 //! # What it doesn't protect against
 //!
