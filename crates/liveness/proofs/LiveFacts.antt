@@ -12,6 +12,7 @@ use Rattle.liveness.specs.declared.graph.Block.{Block}
 use Rattle.liveness.specs.declared.graph.Op.{Op}
 use Rattle.liveness.specs.declared.graph.Op.TheVariants.{Use, Def}
 
+-- an exposed use stays exposed behind an op that doesn't define its variable
 exposed_later : (o : Op) (ops : List Op) (v : ℕ) → (defines (o ∷ []) v ≡ false) → HasExposedUse ops v → HasExposedUse (o ∷ ops) v
 exposed_later (Use w) ops v apart h =
     record { before = Use w ∷ h.before; after = h.after; parts = ap (λ t. Use w ∷ t) h.parts; undefined = h.undefined }
@@ -39,6 +40,7 @@ exposed_from_test (Def w ∷ ops) v h =
     let apart : (w.0 == v) ≡ false = not-true _ both.0 in
     exposed_later (Def w) ops v (rw apart refl) (exposed_from_test ops v both.1)
 
+-- the test finds a use before which nothing defines its variable
 test_at : (before after : List Op) (v : ℕ) → defines before v ≡ false → exposes (before ++ Use (record { 0 = v }) ∷ after) v ≡ true
 test_at [] after v h = or_left _ _ (eq-eqb v v refl)
 test_at (Use w ∷ before) after v h = or_right _ _ (test_at before after v h)
@@ -59,6 +61,7 @@ any_member m (x ∷ cs) h = ⊎_elim
     (λ later. let found = any_member m cs later in (found.0, (or_right _ _ found.1.0, found.1.1)))
     (or_cases (m x.0) (list_any (λ s. m s.0) cs) h)
 
+-- if m holds of a c among cs, it holds of some block among cs
 any_from_member : (m : ℕ → Bool) (cs : List Block) (c : ℕ) → list_any (λ s. nat_eq s.0 c) cs ≡ true → m c ≡ true
     → list_any (λ s. m s.0) cs ≡ true
 any_from_member m [] c h one = absurd (cc)
@@ -79,6 +82,7 @@ live_from_needs g v m b sound h = ⊎_elim
     (next.0 ∷ live.0, (not-true _ both.0, (next.1.0, live.1))))
     (or_cases (exposes (block g b).0 v) _ h)
 
+-- if each block that needs v is in m, each block with a path to a use of v is in m
 closed_has_path : (g : List Body) (v : ℕ) (m : ℕ → Bool) → EdgesStayWithin g → IsClosed g v m
     → (rest : List ℕ) (b : ℕ) → b < length g → IsLivePath g v b rest → m b ≡ true
 unfolding needs

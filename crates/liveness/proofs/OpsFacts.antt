@@ -19,6 +19,7 @@ defines_pushed [] o v = refl
 defines_pushed (Use w ∷ ops) o v = defines_pushed ops o v
 defines_pushed (Def w ∷ ops) o v = let rest = defines_pushed ops o v in grind (arith, nat_tests)
 
+-- the exposed uses with one op more at the end
 exposes_pushed : (ops : List Op) (o : Op) (v : ℕ)
     → exposes (ops ++ o ∷ []) v ≡ (exposes ops v || (not (defines ops v) && exposes (o ∷ []) v))
 exposes_pushed [] o v = refl
@@ -26,6 +27,7 @@ exposes_pushed (Use w ∷ ops) o v = let rest = exposes_pushed ops o v in grind 
 exposes_pushed (Def w ∷ ops) o v = let rest = exposes_pushed ops o v in grind (arith, nat_tests)
 
 module _ (ops : List Op) (i : ℕ) (o d : Op) (below : i < length ops) (is : get_or ops i d ≡ o) where
+  -- the first i + 1 ops
   taken : take (i + 1) ops ≡ take i ops ++ o ∷ []
   taken = take_more ops i d below ∙ ap (λ x. take i ops ++ x ∷ []) is
 

@@ -1,5 +1,6 @@
 //! Callers of the analysis, proved from its contracts alone.
-ghost use Rattle.std.specs.Prelude.{◌≡◌, ◌+◌, ◌*◌, ◌<◌, ◌≤◌, ◌↔◌, ℕ, true, false, length, IsTrue, IfOk};
+ghost use Rattle.std.specs.Prelude.{◌≡◌, ◌+◌, ◌*◌, ◌<◌, ◌≤◌, ◌↔◌, ℕ, true, false, length};
+ghost use Rattle.std.specs.Prelude.{IsTrue, IfOk};
 ghost use Rattle.liveness.specs.Graph.{block, defines, HasEdge, HasExposedUse};
 ghost use Rattle.liveness.specs.Live.{IsLive};
 
@@ -20,7 +21,8 @@ pub fn may_be_used<L: Ledger>(
 ) -> Result<bool, OutOfMemory>
     requires { b.0 < length graph.now.blocks }
     ensures exact { IfOk result (λ live. IsTrue live ↔ IsLive graph.now.blocks v.0 b.0) }
-    ensures looks { steps.new ≤ steps.old + length graph.now.blocks * (length graph.now.blocks + 1) }
+    ensures looks { steps.new
+        ≤ steps.old + length graph.now.blocks * (length graph.now.blocks + 1) }
 {
     let sets = graph.live_in(alloc, steps)?;
     Ok(sets[b.index()].contains(v))
