@@ -15,7 +15,7 @@ pub record IsFollowing (jumps : ℕ → ℕ) (first before work done : FinSet na
   pub kept : (b : ℕ) → contains before b ≡ true → contains done b ≡ true
   -- each block of first is done or on the worklist
   pub taken : (b : ℕ) → contains first b ≡ true → (contains done b ≡ true) ⊎ (contains work b ≡ true)
-  -- where a block jumps that is done and not of before, that block is done or on the worklist
+  -- if a block is done and not of before, the block that it jumps to is done or on the worklist
   pub closed : (b : ℕ) → contains done b ≡ true → contains before b ≡ false
       → (contains done (jumps b) ≡ true) ⊎ (contains work (jumps b) ≡ true)
 
@@ -27,7 +27,7 @@ following-starts jumps first before = record {
   closed = λ b has hasn't. absurd (cc);
 }
 
--- where the worklist is empty, all blocks of first are followed
+-- if the worklist is empty, all blocks of first are followed
 pub following-ends : (jumps : ℕ → ℕ) (first before work done : FinSet nat_cmp) → IsFollowing jumps first before work done → work ≡ empty
     → IsFollowed jumps first before done
 following-ends jumps first before work done way none = record {
@@ -43,7 +43,7 @@ kept_after_insert s i q has = ⊎_elim
     (λ apart. same_after_insert s i q apart ∙ has)
     (cases_eq q i)
 
--- block b is taken off and done; it was done before, or where it jumps is on the worklist
+-- block b is taken off and done; it was done before, or the block that it jumps to is on the worklist
 pub following-step : (jumps : ℕ → ℕ) (first before work done work' done' : FinSet nat_cmp) (b : ℕ)
     → IsFollowing jumps first before work done → done' ≡ insert done b
     → ((q : ℕ) → contains (remove work b) q ≡ true → contains work' q ≡ true)
@@ -76,7 +76,7 @@ following-step jumps first before work done work' done' b way put rest next = re
 
 -- ---- how long it takes
 
--- there are no more members than numbers below a place above them all
+-- there are at most n members if each is below n
 len-below : (n : ℕ) (s : FinSet nat_cmp) → AllBelow n s → len s ≤ n
 len-below n s below = let e = length-rising s in let h = length-rising-le s n below in omega arith
 
@@ -94,7 +94,7 @@ len-taken s b has = ⊎_elim
 abbrev pub to_do : ℕ → FinSet nat_cmp → FinSet nat_cmp → ℕ
 to_do n work done = 2 * (n - len done) + len work
 
--- less is to do once a block that was done before is taken off the worklist
+-- less is to do after a block that was done before is taken off the worklist
 pub fewer-known : (n b : ℕ) (work done : FinSet nat_cmp) → contains work b ≡ true → contains done b ≡ true
     → to_do n (remove work b) (insert done b) < to_do n work done
 fewer-known n b work done on is =
@@ -103,7 +103,7 @@ fewer-known n b work done on is =
     let same = rw is at e in
     omega arith
 
--- less is to do once a block is taken off the worklist and newly done, though another is put on it; all done are below n
+-- less is to do after a block is taken off the worklist and newly done, though another is put on it; all done are below n
 pub fewer-new : (n b c : ℕ) (work done : FinSet nat_cmp) → contains work b ≡ true → contains done b ≡ false → AllBelow n (insert done b)
     → to_do n (insert (remove work b) c) (insert done b) < to_do n work done
 fewer-new n b c work done on isn't below =

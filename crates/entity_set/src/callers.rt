@@ -1,11 +1,12 @@
 //! Callers of a set, proved from its contracts alone.
-ghost use Rattle.std.specs.Prelude.{◌≡◌, ℕ, ◌<◌, length, slice_index, OnOk};
+ghost use Rattle.std.specs.Prelude.{◌≡◌, ℕ, ◌<◌, length, slice_index, false, IfOk, OnOk};
 ghost use Rattle.std.specs.FinSet as fin_set;
 ghost use Rattle.wic_base.specs.Sets.{AllBelow};
 ghost use Rattle.entity_set.specs.Follows.{IsFollowed};
 
-use crate::{EntityRef, EntitySet};
+use crate::{EntityRef, EntitySet, law_keys};
 use wic_base::OutOfMemory;
+use wic_bitset::CompoundBitSet;
 
 // A block of a compiler.
 #[derive(Clone, Copy, Debug, PartialEq, Eq)]
@@ -29,8 +30,8 @@ impl EntityRef for Block {
     }
 }
 
-// Follows the jumps of blocks: block `b` jumps to block `jumps[b]`. What is on the worklist is done, and so is where a block
-// jumps that is done here; in the end the worklist is empty.
+// Follows the jumps of blocks: block `b` jumps to block `jumps[b]`. In the end the worklist is empty. Each block that was on it
+// is done, and so is the block that each newly done block jumps to.
 pub fn follow(
     work: &mut EntitySet<Block>,
     done: &mut EntitySet<Block>,
@@ -38,9 +39,11 @@ pub fn follow(
 ) -> Result<(), OutOfMemory>
     requires blocks { AllBelow (length jumps.now) work.old.members }
     requires done { AllBelow (length jumps.now) done.old.members }
-    requires jumps { (b : ℕ) → b < length jumps.now → slice_index jumps.now b < length jumps.now }
+    requires jumps { (b : ℕ)
+        → b < length jumps.now → slice_index jumps.now b < length jumps.now }
     ensures none_left { OnOk result (work.new.members ≡ fin_set.empty) }
-    ensures followed { OnOk result (IsFollowed (slice_index jumps.now) work.old.members done.old.members done.new.members) }
+    ensures followed { OnOk result (IsFollowed (slice_index jumps.now)
+        work.old.members done.old.members done.new.members) }
 {
     while let Some(b) = work.pop() {
         if done.insert(b)? {
@@ -48,4 +51,52 @@ pub fn follow(
         }
     }
     Ok(())
+}
+
+// Takes the greatest key out for a while: it was below the capacity, so putting it back is never refused, and the set is as before.
+pub fn leave_for_a_while<K: EntityRef>(set: &mut EntitySet<K>)
+    ensures { set.new ≡ set.old }
+{
+    if let Some(key) = set.pop() {
+        set.insert(key).unwrap();
+    }
+}
+
+// Moves the greatest key into a set of plain numbers, which can hold the number of every key.
+pub fn move_greatest<K: EntityRef>(
+    from: &mut EntitySet<K>,
+    to: &mut CompoundBitSet<usize>,
+) -> Result<bool, OutOfMemory>
+    ensures { from.new.capacity ≡ from.old.capacity }
+{
+    match from.pop() {
+        Some(key) => to.insert(key.index()),
+        None => Ok(false),
+    }
+}
+
+// Adds what is found, and returns whether anything is new: if not, the members are as before.
+pub fn absorb<K: EntityRef>(
+    known: &mut EntitySet<K>,
+    found: &EntitySet<K>,
+) -> Result<bool, OutOfMemory>
+    ensures { IfOk result (λ added.
+        added ≡ false → known.new.members ≡ known.old.members) }
+{
+    known.union_with(found)
+}
+
+// Takes out what isn't allowed, and returns whether there was anything: if not, the members are as before.
+pub fn restrict<K: EntityRef>(set: &mut EntitySet<K>, allowed: &EntitySet<K>) -> bool
+    ensures { result ≡ false → set.new.members ≡ set.old.members }
+{
+    set.intersect_with(allowed)
+}
+
+// A walk gives as many keys as the set has.
+pub fn walked_count<K: EntityRef>(set: &EntitySet<K>) -> usize
+    ensures { result ≡ fin_set.len set.now.members }
+{
+    law_keys();
+    set.keys().count()
 }

@@ -10,14 +10,16 @@ use crate::entity::EntityRef;
 use crate::set::EntitySet;
 use std::hash::{Hash, Hasher};
 
-/// Two sets are equal exactly where they have the same keys, whatever room they have. Own.
+/// Two sets are equal exactly if they have the same keys, whatever room they have. It compares the summary words up to that of
+/// the greatest key, and then each word that has a key.
 impl<K: EntityRef> PartialEq for EntitySet<K> {
     ghost eq = { λ s t. pointwise nat_eq (rising s.members) (rising t.members) };
 
     ghost laws = { on_per (λ s. rising s.members) (partial_equiv_from_equiv nat_list_eq_equiv) };
 
     fn eq(&self, other: &EntitySet<K>) -> bool
-        ensures value { result ≡ pointwise nat_eq (rising self.now.members) (rising other.now.members) }
+        ensures value { result
+            ≡ pointwise nat_eq (rising self.now.members) (rising other.now.members) }
         ensures members { IsTrue result ↔ (self.now.members ≡ other.now.members) }
     {
         self.bits == other.bits
@@ -28,11 +30,13 @@ impl<K: EntityRef> Eq for EntitySet<K> {
     ghost laws = { on_equiv (λ s. rising s.members) nat_list_eq_equiv };
 }
 
-/// The number of keys, and then the number of each, rising: sets that are equal hash alike. Own.
+/// The number of keys, and then the number of each, ascending: sets that are equal hash alike. It reads the words that have a key
+/// twice, and visits each key.
 impl<K: EntityRef> Hash for EntitySet<K> {
     ghost hash_input = { λ s. fed.slice fed.usize (rising s.members) };
 
-    ghost respects_eq = { (on_Alike (λ s. rising s.members) (items_Alike (same_Alike {E = nat_eq} fed.usize unsigned_Decides))).fed };
+    ghost respects_eq = { (on_Alike (λ s. rising s.members)
+        (items_Alike (same_Alike {E = nat_eq} fed.usize unsigned_Decides))).fed };
 
     fn hash<H: Hasher>(&self, state: &mut H) {
         self.bits.hash(state);

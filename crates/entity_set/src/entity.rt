@@ -1,11 +1,11 @@
 //! Keys.
 ghost use Rattle.std.specs.Prelude.{◌≡◌, ◌↔◌, ℕ, ◌<◌, ◌≤◌, IsTrue};
 
-/// A key of an entity, as a block or a variable of a compiler: it has a number below a limit.
+/// A key of an entity, such as a block or a variable of a compiler: it has a number below a limit.
 ///
 /// Each law is a clause of a call, about the keys that are passed. After Cranelift's `EntityRef`.
 pub trait EntityRef: Copy + Eq {
-    /// The numbers of keys are those below it.
+    /// The number of each key is below it.
     ghost limit: { ℕ };
 
     /// The number of a key.
@@ -21,9 +21,10 @@ pub trait EntityRef: Copy + Eq {
         requires { index < limit }
         ensures { number result ≡ index };
 
-    /// The number of the key. Another key is equal to it exactly where it has that number.
+    /// The number of the key. Another key is equal to it exactly if it has that number.
     fn index(self) -> usize
         ensures value { result ≡ number self }
         ensures below { result < limit }
-        ensures equal { (other : Self) → number other < limit → (IsTrue (Self.eq self other) ↔ (number self ≡ number other)) };
+        ensures equal { (other : Self) → number other < limit
+            → (IsTrue (Self.eq self other) ↔ (number self ≡ number other)) };
 }

@@ -7,7 +7,7 @@ use std::iter::FusedIterator;
 use std::marker::{Model, PhantomData};
 use wic_bitset::Iter;
 
-/// A walk over the keys of a set, by rising number, seen as the list of the numbers of those that are left. Own.
+/// A walk over the keys of a set, by ascending number, seen as the list of the numbers of those that are left.
 #[derive(Drop)]
 pub struct Keys<'a, K: EntityRef> {
     numbers: Iter<'a, usize>,

@@ -1,11 +1,12 @@
 //! The set of keys.
-ghost use Rattle.std.specs.Prelude.{◌≡◌, ℕ, ◌<◌, ◌≤◌, ◌↔◌, length, not, true};
-ghost use Rattle.std.specs.Prelude.{IsTrue, IsOk, IsNone, IfOk, IfSome, IfNone, OnOk, OnErr};
+ghost use Rattle.std.specs.Prelude.{◌≡◌, ℕ, ◌<◌, ◌≤◌, ◌↔◌, length, not, true, false, All};
+ghost use Rattle.std.specs.Prelude.{IsTrue, IsOk, IsNone, IfOk, IfSome, IfNone, OnOk};
 ghost use Rattle.std.specs.List.Sorted.{IsStrictlyIncreasing};
 ghost use Rattle.std.specs.FinSet as fin_set;
 ghost use Rattle.wic_base.specs.Sets.{AllBelow, HasFrom, HasMore};
 ghost use Rattle.wic_bitset.specs.Rising.{rising};
 ghost use Rattle.wic_bitset.specs.Room.{MakesRoomFor};
+ghost use Rattle.entity_set.specs.Entities.{MayGrow, TakesOut};
 
 use crate::entity::EntityRef;
 use crate::keys::Keys;
@@ -17,7 +18,7 @@ use wic_bitset::CompoundBitSet;
 /// A set of keys.
 ///
 /// A contract sees the numbers of its keys, its `members`, a finite set of numbers below the limit of `K`, and its
-/// `capacity`: keys whose numbers are below it need no memory. After Cranelift's `EntitySet`.
+/// `capacity`: a key whose number is below it needs no allocation. After Cranelift's `EntitySet`.
 #[derive(Drop)]
 pub struct EntitySet<K: EntityRef> {
     pub(crate) bits: CompoundBitSet,
@@ -39,7 +40,7 @@ impl<K: EntityRef> Model for EntitySet<K> {
 }
 
 impl<K: EntityRef> EntitySet<K> {
-    /// The empty set, of capacity 0. It takes no memory. Own.
+    /// The empty set, of capacity 0. It allocates nothing.
     pub fn new(alloc: Global) -> EntitySet<K>
         ensures members { result.members ≡ fin_set.empty }
         ensures capacity { result.capacity ≡ 0 }
@@ -51,7 +52,6 @@ impl<K: EntityRef> EntitySet<K> {
     }
 
     /// The empty set with room for the keys whose numbers are below `n`, at most 4294967296. An `n` of 0 is never refused.
-    /// Own.
     pub fn with_capacity(alloc: Global, n: usize) -> Result<EntitySet<K>, OutOfMemory>
         requires within { n ≤ 4294967296 }
         ensures members { IfOk result (λ set. set.members ≡ fin_set.empty) }
@@ -65,28 +65,26 @@ impl<K: EntityRef> EntitySet<K> {
         })
     }
 
-    /// Makes room for the keys whose numbers are below `n`, at most 4294967296. It is refused only where `n` is above the
-    /// capacity, and then the set is as before. Own.
+    /// Makes room for the keys whose numbers are below `n`, at most 4294967296. It is refused only if `n` is above the
+    /// capacity, and then the set is as before.
     pub fn ensure_capacity(&mut self, n: usize) -> Result<(), OutOfMemory>
         requires within { n ≤ 4294967296 }
-        ensures room {
-            MakesRoomFor (λ s. s.members) (λ s. s.capacity) n self.old self.new result }
+        ensures room { MakesRoomFor (λ s. s.members) (λ s. s.capacity) n self.old self.new result }
     {
         self.bits.ensure_capacity(n)
     }
 
-    /// How many numbers there is room for: an `insert` of a key whose number is below is never refused. Own.
-    ///
-    /// Its contract also says what is true of every set.
+    /// The capacity: an `insert` of a key whose number is below it is never refused. The number of each key is below it.
     pub fn capacity(&self) -> usize
         ensures capacity { result ≡ self.now.capacity }
         ensures holds_all { AllBelow self.now.capacity self.now.members }
         ensures below_limit { AllBelow K.limit self.now.members }
+        ensures numbers { (i : ℕ) → fin_set.contains self.now.members i ≡ true → i ≤ 4294967295 }
     {
         self.bits.capacity()
     }
 
-    /// How many keys there are. Own.
+    /// The number of keys. It reads what a walk reads, and counts each word that has a key by one instruction.
     pub fn len(&self) -> usize
         ensures len { result ≡ fin_set.len self.now.members }
         ensures few { result ≤ 4294967296 }
@@ -94,58 +92,67 @@ impl<K: EntityRef> EntitySet<K> {
         self.bits.len()
     }
 
-    /// Whether there is no key. Own.
+    /// Whether there is no key.
     pub fn is_empty(&self) -> bool
         ensures empty { IsTrue result ↔ (self.now.members ≡ fin_set.empty) }
     {
         self.bits.is_empty()
     }
 
-    /// Puts `k` in, and answers whether it was not there before. It is refused only where its number isn't below the
-    /// capacity, and then the set is as before. Own.
+    /// Puts `k` in, and returns whether it is new. It is refused only if its number is at the capacity or above, and then the
+    /// set is as before.
     pub fn insert(&mut self, k: K) -> Result<bool, OutOfMemory>
-        ensures new { IfOk result (λ is_new. is_new ≡ not (fin_set.contains self.old.members (K.number k))) }
-        ensures members { OnOk result (self.new.members ≡ fin_set.insert self.old.members (K.number k)) }
-        ensures never_refused_below { K.number k < self.old.capacity → IsOk result }
-        ensures capacity_kept_below { K.number k < self.old.capacity → self.new.capacity ≡ self.old.capacity }
-        ensures refused_only_beyond { OnErr result (self.old.capacity ≤ K.number k) }
-        ensures capacity_never_falls { self.old.capacity ≤ self.new.capacity }
-        ensures refusal_leaves { OnErr result (self.new ≡ self.old) }
+        ensures new { IfOk result (λ is_new.
+            is_new ≡ not (fin_set.contains self.old.members (K.number k))) }
+        ensures members { OnOk result
+            (self.new.members ≡ fin_set.insert self.old.members (K.number k)) }
+        ensures room { MayGrow (K.number k < self.old.capacity) (self.old.capacity ≤ K.number k)
+            self.old self.new result }
     {
         let number = index_of(k);
         self.bits.insert(number)
     }
 
-    /// Takes `k` out, and answers whether it was there. Own.
+    /// Takes `k` out, and returns whether it was there. If it has the greatest number, the summary words are read down to that
+    /// of the next key.
     pub fn remove(&mut self, k: K) -> bool
         ensures present { result ≡ fin_set.contains self.old.members (K.number k) }
         ensures members { self.new.members ≡ fin_set.remove self.old.members (K.number k) }
         ensures capacity_stays { self.new.capacity ≡ self.old.capacity }
+        ensures below { IsTrue result → K.number k < self.old.capacity }
+        ensures number { IsTrue result → K.number k ≤ 4294967295 }
     {
         self.bits.remove(k.index())
     }
 
-    /// Whether `k` is there. Own.
+    /// Whether `k` is there.
     pub fn contains(&self, k: K) -> bool
         ensures member { result ≡ fin_set.contains self.now.members (K.number k) }
+        ensures below { IsTrue result → K.number k < self.now.capacity }
+        ensures number { IsTrue result → K.number k ≤ 4294967295 }
     {
         self.bits.contains(k.index())
     }
 
-    /// Takes the key of the greatest number out and answers it, or `None` exactly where there is none. Own.
+    /// Takes the key with the greatest number out and returns it, or `None` if there is no key. It costs what `remove` does.
     pub fn pop(&mut self) -> Option<K>
         ensures none { IsNone result ↔ (self.old.members ≡ fin_set.empty) }
         ensures none_leaves { IfNone result (self.new ≡ self.old) }
-        ensures member { IfSome result (λ k. fin_set.contains self.old.members (K.number k) ≡ true) }
-        ensures greatest { IfSome result (λ k. (i : ℕ) → fin_set.contains self.old.members i ≡ true → i ≤ K.number k) }
-        ensures members { IfSome result (λ k. self.new.members ≡ fin_set.remove self.old.members (K.number k)) }
+        ensures member { IfSome result (λ k.
+            fin_set.contains self.old.members (K.number k) ≡ true) }
+        ensures greatest { IfSome result (λ k. (i : ℕ)
+            → fin_set.contains self.old.members i ≡ true → i ≤ K.number k) }
+        ensures members { IfSome result (λ k.
+            self.new.members ≡ fin_set.remove self.old.members (K.number k)) }
         ensures capacity_stays { self.new.capacity ≡ self.old.capacity }
+        ensures below { IfSome result (λ k. K.number k < self.old.capacity) }
+        ensures number { IfSome result (λ k. K.number k ≤ 4294967295) }
     {
         let number = self.bits.pop()?;
         Some(K::new(number))
     }
 
-    /// Takes every key out. The capacity stays. Own.
+    /// Takes every key out. The capacity stays. An empty set is left at once; else each word that has a key is written once.
     pub fn clear(&mut self)
         ensures members { self.new.members ≡ fin_set.empty }
         ensures capacity_stays { self.new.capacity ≡ self.old.capacity }
@@ -153,17 +160,20 @@ impl<K: EntityRef> EntitySet<K> {
         self.bits.clear();
     }
 
-    /// A walk over the keys, by rising number, each once. Own.
+    /// The keys, each once, by ascending number. A walk reads the summary words up to that of the greatest key, and each word
+    /// that has a key once.
     pub fn keys(&self) -> Keys<'_, K>
         ensures members { result ≡ rising self.now.members }
         ensures each { fin_set.from_list result ≡ self.now.members }
         ensures once { IsStrictlyIncreasing result }
         ensures few { length result ≤ 4294967296 }
+        ensures below { All (λ i. i < self.now.capacity) result }
+        ensures numbers { All (λ i. i ≤ 4294967295) result }
     {
         Keys::new(self.bits.iter())
     }
 
-    /// The same keys, with the same capacity. Own.
+    /// A copy with the same keys and the same capacity. It copies the words, and a refusal leaves nothing.
     pub fn try_clone(&self, alloc: Global) -> Result<EntitySet<K>, OutOfMemory>
         ensures same { IfOk result (λ copy. copy ≡ self.now) }
     {
@@ -174,48 +184,54 @@ impl<K: EntityRef> EntitySet<K> {
         })
     }
 
-    /// Puts the keys of `other` in, a word at a time, and answers whether one of them was added. It is refused only where the
-    /// number of a key of `other` isn't below the capacity, and then the set is as before. Own.
+    /// Puts the keys of `other` in, and returns whether one of them is new. It is refused only if the number of a key of `other`
+    /// is at the capacity or above, and then the set is as before. It reads the words of both up to that of the greatest key
+    /// of `other`.
     pub fn union_with(&mut self, other: &EntitySet<K>) -> Result<bool, OutOfMemory>
-        ensures members { OnOk result (self.new.members ≡ fin_set.union self.old.members other.now.members) }
-        ensures added { IfOk result (λ added. IsTrue added ↔ HasMore self.old.members self.new.members) }
-        ensures never_refused_within { AllBelow self.old.capacity other.now.members → IsOk result }
-        ensures capacity_kept_within { AllBelow self.old.capacity other.now.members → self.new.capacity ≡ self.old.capacity }
-        ensures refused_only_beyond { OnErr result (HasFrom self.old.capacity other.now.members) }
-        ensures capacity_never_falls { self.old.capacity ≤ self.new.capacity }
-        ensures refusal_leaves { OnErr result (self.new ≡ self.old) }
+        ensures members { OnOk result
+            (self.new.members ≡ fin_set.union self.old.members other.now.members) }
+        ensures added { IfOk result (λ added.
+            IsTrue added ↔ HasMore self.old.members self.new.members) }
+        ensures as_before { IfOk result (λ added.
+            (added ≡ false) ↔ (self.new.members ≡ self.old.members)) }
+        ensures room { MayGrow (AllBelow self.old.capacity other.now.members)
+            (HasFrom self.old.capacity other.now.members) self.old self.new result }
     {
         self.bits.union_with(&other.bits)
     }
 
-    /// Takes the keys out that `other` hasn't, a word at a time, and answers whether there was one. Own.
+    /// Takes the keys out that `other` hasn't, and returns whether there was one. It reads the words of both up to that of the
+    /// greatest key.
     pub fn intersect_with(&mut self, other: &EntitySet<K>) -> bool
-        ensures members { self.new.members ≡ fin_set.intersection self.old.members other.now.members }
-        ensures dropped { IsTrue result ↔ HasMore self.new.members self.old.members }
-        ensures capacity_stays { self.new.capacity ≡ self.old.capacity }
+        ensures members { self.new.members
+            ≡ fin_set.intersection self.old.members other.now.members }
+        ensures takes_out { TakesOut self.old self.new result }
     {
         self.bits.intersect_with(&other.bits)
     }
 
-    /// Takes the keys out that `other` has, a word at a time, and answers whether there was one. Own.
+    /// Takes the keys out that `other` has, and returns whether there was one. It reads the words of both up to that of the
+    /// lesser of their greatest keys.
     pub fn subtract(&mut self, other: &EntitySet<K>) -> bool
         ensures members { self.new.members ≡ fin_set.difference self.old.members other.now.members }
-        ensures dropped { IsTrue result ↔ HasMore self.new.members self.old.members }
-        ensures capacity_stays { self.new.capacity ≡ self.old.capacity }
+        ensures takes_out { TakesOut self.old self.new result }
     {
         self.bits.subtract(&other.bits)
     }
 
-    /// Whether `other` has all keys. Own.
+    /// Whether `other` has all keys. It reads the words of both up to that of the greatest key, or of the first key that `other`
+    /// lacks.
     pub fn is_subset(&self, other: &EntitySet<K>) -> bool
         ensures { result ≡ fin_set.is_subset self.now.members other.now.members }
     {
         self.bits.is_subset(&other.bits)
     }
 
-    /// Whether the two have no key in common. Own.
+    /// Whether the two have no key in common. It reads the words of both up to that of the lesser of their greatest keys, or
+    /// of the first key that both have.
     pub fn is_disjoint(&self, other: &EntitySet<K>) -> bool
-        ensures { IsTrue result ↔ (fin_set.intersection self.now.members other.now.members ≡ fin_set.empty) }
+        ensures { IsTrue result
+            ↔ (fin_set.intersection self.now.members other.now.members ≡ fin_set.empty) }
     {
         self.bits.is_disjoint(&other.bits)
     }
@@ -233,7 +249,7 @@ fn index_of<K: EntityRef>(k: K) -> usize
     number
 }
 
-/// The keys, by rising number. Own.
+/// The keys, each once, by ascending number.
 impl<'a, K: EntityRef> IntoIterator for &'a EntitySet<K> {
     type Item = K;
 

@@ -1,11 +1,14 @@
 //! The worked examples, and the algebra beside sorted lists.
 use crate::EntitySet;
-use crate::callers::{Block, follow};
+use crate::callers::{
+    Block, absorb, follow, leave_for_a_while, move_greatest, restrict, walked_count,
+};
 use std::alloc::{AllocError, Global};
 use std::hash::{DefaultHasher, Hash, Hasher};
 use std::process::Abort;
 use std::test::Fail;
 use wic_base::OutOfMemory;
+use wic_bitset::CompoundBitSet;
 
 // A set of the blocks of these numbers.
 fn set_of(alloc: Global, numbers: &[u32]) -> Result<EntitySet<Block>, OutOfMemory> {
@@ -16,7 +19,7 @@ fn set_of(alloc: Global, numbers: &[u32]) -> Result<EntitySet<Block>, OutOfMemor
     Ok(set)
 }
 
-// Whether the keys of a set have just these numbers, which rise.
+// Whether the keys of a set have just these numbers, which ascend.
 fn has_just(set: &EntitySet<Block>, numbers: &[u32]) -> bool {
     let mut numbers = numbers.iter();
     for block in set {
@@ -34,7 +37,7 @@ fn hash_of(set: &EntitySet<Block>) -> u64 {
 }
 
 #[test]
-fn keys_are_put_in_and_walked_by_rising_number(rt: HostRuntime) -> Result<(), Fail> {
+fn keys_are_put_in_and_walked_by_ascending_number(rt: HostRuntime) -> Result<(), Fail> {
     let alloc = rt.alloc();
     let mut set = EntitySet::with_capacity(alloc, 8)?;
     assert!(rt; set.capacity() >= 8);
@@ -83,13 +86,42 @@ fn a_worklist_is_followed_until_it_is_empty(rt: HostRuntime) -> Result<(), Fail>
     Ok(())
 }
 
+#[test]
+fn the_greatest_key_leaves_for_a_while_and_for_good(rt: HostRuntime) -> Result<(), Fail> {
+    let alloc = rt.alloc();
+    let mut set = set_of(alloc, &[1, 700])?;
+    let mut numbers = CompoundBitSet::new(alloc);
+    leave_for_a_while(&mut set);
+    assert!(rt; has_just(&set, &[1, 700]));
+    assert!(rt; move_greatest(&mut set, &mut numbers)?);
+    assert!(rt; has_just(&set, &[1]));
+    assert!(rt; numbers.contains(700));
+    assert!(rt; move_greatest(&mut set, &mut numbers)?);
+    assert!(rt; !move_greatest(&mut set, &mut numbers)?);
+    Ok(())
+}
+
+#[test]
+fn a_set_is_joined_and_restricted_until_nothing_changes(rt: HostRuntime) -> Result<(), Fail> {
+    let alloc = rt.alloc();
+    let mut known = set_of(alloc, &[1])?;
+    let found = set_of(alloc, &[2, 3])?;
+    assert!(rt; absorb(&mut known, &found)?);
+    assert!(rt; !absorb(&mut known, &found)?);
+    assert_eq!(rt; walked_count(&known), 3);
+    assert!(rt; restrict(&mut known, &found));
+    assert!(rt; !restrict(&mut known, &found));
+    assert_eq!(rt; walked_count(&known), 2);
+    Ok(())
+}
+
 // The next number of a plain generator of random numbers.
 fn random(seed: u64) -> u64 {
     seed.wrapping_mul(6364136223846793005)
         .wrapping_add(1442695040888963407)
 }
 
-// Some numbers below 300, rising, more or fewer of them by the first draw.
+// Some numbers below 300, ascending, more or fewer of them by the first draw.
 fn random_numbers(alloc: Global, seed: &mut u64) -> Result<Vec<u32>, AllocError> {
     let mut numbers = Vec::new(alloc);
     *seed = random(*seed);

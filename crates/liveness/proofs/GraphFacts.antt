@@ -15,11 +15,12 @@ block_is [] b body h = absurd (cc)
 block_is (x ∷ g) zero body h = cc
 block_is (x ∷ g) (suc b) body h = block_is g b body h
 
--- the edges of a block that was looked at
+-- the edges of a block that was visited
 pub edges_within : (g : List Body) (b : ℕ) (body : Body) → EdgesStayWithin g → slice_get g b ≡ Some body
     → (c : ℕ) → IsSuccessor body c → c < length g
 edges_within g b body within at_b c among = within b c (rw (block_is g b body at_b) among)
 
+-- a block that is written over itself
 set_itself : (g : List Body) (b : ℕ) (body : Body) → slice_get g b ≡ Some body → set g b body ≡ g
 set_itself [] b body h = absurd (cc)
 set_itself (x ∷ g) zero body h = let e : x ≡ body = cc in ap (λ y. y ∷ g) (sym e)

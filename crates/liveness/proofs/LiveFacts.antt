@@ -12,6 +12,7 @@ use Rattle.liveness.specs.declared.graph.Block.{Block}
 use Rattle.liveness.specs.declared.graph.Op.{Op}
 use Rattle.liveness.specs.declared.graph.Op.TheVariants.{Use, Def}
 
+-- an exposed use stays exposed behind an op that doesn't define its variable
 exposed_later : (o : Op) (ops : List Op) (v : ℕ) → (defines (o ∷ []) v ≡ false) → HasExposedUse ops v → HasExposedUse (o ∷ ops) v
 exposed_later (Use w) ops v apart h =
     record { before = Use w ∷ h.before; after = h.after; parts = ap (λ t. Use w ∷ t) h.parts; undefined = h.undefined }
@@ -39,6 +40,7 @@ exposed_from_test (Def w ∷ ops) v h =
     let apart : (w.0 == v) ≡ false = not-true _ both.0 in
     exposed_later (Def w) ops v (rw apart refl) (exposed_from_test ops v both.1)
 
+-- the test finds a use before which nothing defines its variable
 test_at : (before after : List Op) (v : ℕ) → defines before v ≡ false → exposes (before ++ Use (record { 0 = v }) ∷ after) v ≡ true
 test_at [] after v h = or_left _ _ (eq-eqb v v refl)
 test_at (Use w ∷ before) after v h = or_right _ _ (test_at before after v h)
@@ -50,7 +52,7 @@ test_at (Def w ∷ before) after v h =
 pub test_from_exposed : (ops : List Op) (v : ℕ) → HasExposedUse ops v → exposes ops v ≡ true
 test_from_exposed ops v h = rw h.parts (test_at h.before h.after v h.undefined)
 
--- where m holds of some block among cs, there is a c that is among cs and of which m holds
+-- if m holds of some block among cs, there is a c that is among cs and of which m holds
 pub any_member : (m : ℕ → Bool) (cs : List Block) → list_any (λ s. m s.0) cs ≡ true
     → (c : ℕ) × ((list_any (λ s. nat_eq s.0 c) cs ≡ true) × (m c ≡ true))
 any_member m [] h = absurd (cc)
@@ -59,6 +61,7 @@ any_member m (x ∷ cs) h = ⊎_elim
     (λ later. let found = any_member m cs later in (found.0, (or_right _ _ found.1.0, found.1.1)))
     (or_cases (m x.0) (list_any (λ s. m s.0) cs) h)
 
+-- if m holds of a c among cs, it holds of some block among cs
 any_from_member : (m : ℕ → Bool) (cs : List Block) (c : ℕ) → list_any (λ s. nat_eq s.0 c) cs ≡ true → m c ≡ true
     → list_any (λ s. m s.0) cs ≡ true
 any_from_member m [] c h one = absurd (cc)
@@ -79,6 +82,7 @@ live_from_needs g v m b sound h = ⊎_elim
     (next.0 ∷ live.0, (not-true _ both.0, (next.1.0, live.1))))
     (or_cases (exposes (block g b).0 v) _ h)
 
+-- if each block that needs v is in m, each block with a path to a use of v is in m
 closed_has_path : (g : List Body) (v : ℕ) (m : ℕ → Bool) → EdgesStayWithin g → IsClosed g v m
     → (rest : List ℕ) (b : ℕ) → b < length g → IsLivePath g v b rest → m b ≡ true
 unfolding needs
@@ -87,7 +91,7 @@ closed_has_path g v m within closed (c ∷ rest) b below h =
     let at_c = closed_has_path g v m within closed rest c (within b c h.1.0) h.1.1 in
     closed b below (or_right _ _ (and_from _ _ (not_from_false _ h.0) (any_from_member m _ c h.1.0 at_c)))
 
--- if each block that needs v is in m, each block where v is live is in m
+-- if each block that needs v is in m, each block at which v is live is in m
 pub closed_has_live : (g : List Body) (v : ℕ) (m : ℕ → Bool) → EdgesStayWithin g → IsClosed g v m
     → (b : ℕ) → b < length g → IsLive g v b → m b ≡ true
 closed_has_live g v m within closed b below live = closed_has_path g v m within closed live.0 b below live.1
@@ -106,10 +110,13 @@ closed_if_none g v m within none exposed b below h = ⊎_elim
 
 -- the flow equation
 pub flow : (g : List Body) (v b : ℕ) → (IsLive g v b ↔ FlowsInto g v b)
-flow g v b = (λ live. first live.0 live.1, λ flows. ⊎_elim
-    (λ exposed. ([], exposed))
-    (λ passed. (passed.1.0 ∷ passed.1.1.1.0, (passed.0, (passed.1.1.0, passed.1.1.1.1))))
-    flows)
+flow g v b = (
+  λ live. first live.0 live.1,
+  λ flows. ⊎_elim
+      (λ exposed. ([], exposed))
+      (λ passed. (passed.1.0 ∷ passed.1.1.1.0, (passed.0, (passed.1.1.0, passed.1.1.1.1))))
+      flows,
+)
   where
     first : (rest : List ℕ) → IsLivePath g v b rest → FlowsInto g v b
     first [] exposed = inl exposed

@@ -19,6 +19,7 @@ defines_pushed [] o v = refl
 defines_pushed (Use w ∷ ops) o v = defines_pushed ops o v
 defines_pushed (Def w ∷ ops) o v = let rest = defines_pushed ops o v in grind (arith, nat_tests)
 
+-- the exposed uses with one op more at the end
 exposes_pushed : (ops : List Op) (o : Op) (v : ℕ)
     → exposes (ops ++ o ∷ []) v ≡ (exposes ops v || (not (defines ops v) && exposes (o ∷ []) v))
 exposes_pushed [] o v = refl
@@ -26,14 +27,15 @@ exposes_pushed (Use w ∷ ops) o v = let rest = exposes_pushed ops o v in grind 
 exposes_pushed (Def w ∷ ops) o v = let rest = exposes_pushed ops o v in grind (arith, nat_tests)
 
 module _ (ops : List Op) (i : ℕ) (o d : Op) (below : i < length ops) (is : get_or ops i d ≡ o) where
+  -- the first i + 1 ops
   taken : take (i + 1) ops ≡ take i ops ++ o ∷ []
   taken = take_more ops i d below ∙ ap (λ x. take i ops ++ x ∷ []) is
 
-  -- the first i + 1 ops define v exactly where the first i do or o does
+  -- the first i + 1 ops define v exactly if the first i do or o does
   pub defines_taken : (v : ℕ) → defines (take (i + 1) ops) v ≡ (defines (take i ops) v || defines (o ∷ []) v)
   defines_taken v = ap (λ xs. defines xs v) taken ∙ defines_pushed (take i ops) o v
 
-  -- the first i + 1 ops expose v exactly where the first i do, or o does and the first i do not define v
+  -- the first i + 1 ops expose v exactly if the first i do, or o does and the first i do not define v
   pub exposes_taken : (v : ℕ) → exposes
       (take (i + 1) ops) v ≡ (exposes (take i ops) v || (not (defines (take i ops) v) && exposes (o ∷ []) v))
   exposes_taken v = ap (λ xs. exposes xs v) taken ∙ exposes_pushed (take i ops) o v
@@ -44,7 +46,7 @@ module _ (ops : List Op) (i : ℕ) (w : Var) (d : Op) (below : i < length ops) w
       → (v : ℕ) → contains s v ≡ defines (take (i + 1) ops) v
   use_defines s is so v = let next = defines_taken ops i (Use w) d below is v in let was = so v in grind (arith, nat_tests)
 
-  -- and is exposed where its variable isn't defined before
+  -- and is exposed if its variable isn't defined before
   pub use_exposes : (s : FinSet nat_cmp) → get_or ops i d ≡ Use w → defines (take i ops) w.0 ≡ false
       → ((v : ℕ) → contains s v ≡ exposes (take i ops) v) → (v : ℕ) → contains (insert s w.0) v ≡ exposes (take (i + 1) ops) v
   use_exposes s is free so v =

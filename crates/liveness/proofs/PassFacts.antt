@@ -14,9 +14,11 @@ use Rattle.liveness.proofs.SetsFacts.{has_past}
 
 -- ---- counts
 
+-- a block that is in counts one
 one : {b : Bool} → b ≡ true → cond {A = ℕ} b 1 0 ≡ 1
 one e = rw e refl
 
+-- a block that is out counts nothing
 none : {b : Bool} → b ≡ false → cond {A = ℕ} b 1 0 ≡ 0
 none e = rw e refl
 
@@ -28,6 +30,7 @@ count_within m (suc n) = let rest = count_within m n in ⊎_elim
     (λ no. rw no (omega arith))
     (cases_Bool (m n))
 
+-- no fewer blocks are in k if each block of m is
 count_grows : (m k : ℕ → Bool) (n : ℕ) → ((c : ℕ) → m c ≡ true → k c ≡ true) → count_of m n ≤ count_of k n
 count_grows m k zero more = omega arith
 count_grows m k (suc n) more = let rest = count_grows m k n more in ⊎_elim
@@ -58,6 +61,7 @@ count_rises m k (suc n) b more below out in_k = ⊎_elim
 -- ---- one visit
 
 module _ {g : List Body} {v b : ℕ} {m k : ℕ → Bool} (visit : IsVisit g v b m k) where
+  -- a visit takes no block out
   visit_grows : (c : ℕ) → m c ≡ true → k c ≡ true
   visit_grows c h = ⊎_elim
       (λ same. let e : m b ≡ true = ap m (sym same) ∙ h in ap k same ∙ visit.here ∙ rw e refl)
@@ -74,15 +78,18 @@ module _ {g : List Body} {v b : ℕ} {m k : ℕ → Bool} (visit : IsVisit g v b
       (λ apart. sound c (sym (visit.others c apart) ∙ h))
       (cases_eq c b)
 
+  -- if block b stays, all do
   same_all : k b ≡ m b → m ≡ k
   same_all e = λ i c. ⊎_elim
       (λ same. ap m same ∙ (sym e ∙ ap k (sym same)))
       (λ apart. sym (visit.others c apart))
       (cases_eq c b) i
 
+  -- block b is closed if it stays
   closed_here : k b ≡ m b → IsClosedAt g v m b
   closed_here e need = sym e ∙ (visit.here ∙ or_right (m b) _ need)
 
+  -- so are the blocks from b on, if those behind it are
   closed_from : k b ≡ m b → ((c : ℕ) → b + 1 ≤ c → c < length g → IsClosedAt g v m c)
       → (c : ℕ) → b ≤ c → c < length g → IsClosedAt g v m c
   closed_from e closed c from below = ⊎_elim
@@ -96,6 +103,7 @@ module _ {g : List Body} {v b : ℕ} {m k : ℕ → Bool} (visit : IsVisit g v b
   visit_closes e closed =
       subst (λ (x : ℕ → Bool). (c : ℕ) → b ≤ c → c < length g → IsClosedAt g v x c) (same_all e) (closed_from e closed)
 
+  -- a visit that leaves block b takes the pass on
   stays : (p : ℕ) → k b ≡ m b → HasGainedFrom g p v m (b + 1) → HasGainedFrom g p v k b
   stays p e gained =
       subst (λ (x : ℕ → Bool). HasGainedFrom g p v x b) (same_all e) (⊎_elim
@@ -153,7 +161,8 @@ pass_goes_on g changed r later first old new b below is pass visit = record {
 pub goes_on : (g : List Body) (changed r : Bool) (first old new : List Entities) (b k : ℕ) → k + 1 ≡ b → b ≤ length g
     → IsPassFrom g changed first old b → IsVisitOf g r k old new → IsPassFrom g (changed || r) first new k
 goes_on g changed r first old new b k down within pass visit =
-    pass_goes_on g changed r (changed || r) first old new k (omega arith) refl (subst (IsPassFrom g changed first old) (sym down) pass) visit
+    pass_goes_on g changed r (changed || r) first old new k (omega arith) refl
+    (subst (IsPassFrom g changed first old) (sym down) pass) visit
 
 -- a pass ends
 pub pass_ends : (g : List Body) (changed : Bool) (old new : List Entities) (p : ℕ) → IsPassFrom g changed old new 0
@@ -172,6 +181,7 @@ pass_starts g sets = record {
 
 -- ---- all passes
 
+-- if no block counts, none is in
 count_none : (m : ℕ → Bool) (n : ℕ) → count_of m n ≡ 0 → (b : ℕ) → b < n → m b ≡ false
 count_none m zero empty b below = absurd (omega arith)
 count_none m (suc n) empty b below = ⊎_elim

@@ -1,5 +1,5 @@
 -- The sets of all blocks as one list, and what a block adds to its set.
-use Rattle.std.proofs.Common.{⊎_elim, ◌⊎◌, ◌≡◌, ℕ, zero, suc, ◌+◌, ◌<◌, ◌≤◌, Bool, true, false, not, ◌&&◌, ◌||◌, List, [], ◌∷◌, ◌++◌}
+use Rattle.std.proofs.Common.{⊎_elim, ◌≡◌, ℕ, zero, suc, ◌+◌, ◌<◌, ◌≤◌, Bool, true, false, not, ◌&&◌, ◌||◌, List, [], ◌∷◌, ◌++◌}
 use Rattle.std.proofs.Common.{get_or}
 use Rattle.std.proofs.Common.{length, set, take, slice_get, Some, refl, sym, ap, ◌∙◌, ◌↔◌, IsTrue, arith, length-append}
 use Rattle.std.specs.Prelude.{◌==◌, nat_eq}
@@ -9,7 +9,7 @@ use Rattle.std.specs.Cmp.{nat_cmp_total, unsigned_tied}
 use Rattle.std.specs.FinSet.{FinSet, contains, insert, union, difference, empty}
 use Rattle.std.specs.FinSet.{contains-empty, contains-insert, contains-union, contains-difference}
 use Rattle.std.proofs.Math.ListN.{length-set}
-use Rattle.std.proofs.lemmas.Bool.{cases_eq, cases_Bool, eq-eqb, or_left, or_right}
+use Rattle.std.proofs.lemmas.Bool.{cases_eq, eq-eqb, or_left, or_right}
 use Rattle.std.proofs.lemmas.Bool.Decides.{nat_tests}
 use Rattle.std.proofs.lemmas.List.{take_more, get_or-set_same, get_or-set_other}
 use Rattle.entity_set.specs.Entities.{Entities}
@@ -20,7 +20,7 @@ use Rattle.liveness.specs.Graph.{Body, block, defines}
 use Rattle.liveness.specs.Live.{has}
 use Rattle.liveness.specs.Passes.{exposes, needs, IsVisitOf, IsChangeAt, IsReady, IsSurveyed}
 
--- membership once v is put in, in the words of a test
+-- membership after v is put in, in the words of a test
 pub contains_insert : (s : FinSet nat_cmp) (v q : ℕ) → contains (insert s v) q ≡ ((q == v) || contains s q)
 contains_insert s v q = contains-insert nat_cmp_total s v q ∙ ap (λ x. x || contains s q) (unsigned_tied q v)
 
@@ -44,6 +44,7 @@ has_before [] s v b below = absurd (omega arith)
 has_before (x ∷ sets) s v zero below = refl
 has_before (x ∷ sets) s v (suc b) below = has_before sets s v b (omega arith)
 
+-- the set that was put at the end
 has_last : (sets : List Entities) (s : Entities) (v b : ℕ) → length sets ≡ b → has (sets ++ s ∷ []) v b ≡ contains s.members v
 has_last [] s v zero last = refl
 has_last [] s v (suc b) last = absurd (omega arith)
@@ -52,7 +53,7 @@ has_last (x ∷ sets) s v (suc b) last = has_last sets s v b (omega arith)
 
 -- ---- the survey
 
--- no block was looked at
+-- no block was visited
 pub surveyed_none : (g : List Body) → IsSurveyed g 0 [] []
 surveyed_none g = record {
   count_defined = refl;
@@ -97,10 +98,12 @@ ready_from_survey g defined sets surveyed = record {
 
 -- ---- the sets of a block's successors
 
+-- m holds of some element, if one more stands at the end
 any_pushed : (m : Block → Bool) (cs : List Block) (c : Block) → list_any m (cs ++ c ∷ []) ≡ (m c || list_any m cs)
 any_pushed m [] c = refl
 any_pushed m (x ∷ cs) c = let rest = any_pushed m cs c in grind arith
 
+-- m holds of some element of the first i + 1
 any_taken : (m : Block → Bool) (cs : List Block) (i : ℕ) (d : Block) → i < length cs
     → list_any m (take (i + 1) cs) ≡ (m (get_or cs i d) || list_any m (take i cs))
 any_taken m cs i d below = ap (list_any m) (take_more cs i d below) ∙ any_pushed m (take i cs) (get_or cs i d)
@@ -133,37 +136,29 @@ needed_bits false false true false implied = refl
 needed_bits false false false true implied = refl
 needed_bits false false false false implied = refl
 
-changed_at : (r : Bool) (b : ℕ) (old new : List Entities) (s t : Entities) (more : FinSet nat_cmp)
+-- whether the set of block b has a variable more, if its members went from those of s to those of t
+changed_at : (r : Bool) (b : ℕ) (old new : List Entities) (s t : Entities)
     → ((v : ℕ) → has old v b ≡ contains s.members v) → ((v : ℕ) → has new v b ≡ contains t.members v)
-    → t.members ≡ union s.members more → (IsTrue r ↔ HasMore s.members t.members) → IsChangeAt r b old new
-changed_at true b old new s t more was is all change =
-    let found = change.0 refl in (found.0, (was found.0 ∙ found.1.0, is found.0 ∙ found.1.1))
-changed_at false b old new s t more was is all change = λ v. is v ∙ same v (cases_Bool (contains s.members v)) ∙ sym (was v)
-  where
-    now : (v : ℕ) → contains t.members v ≡ (contains s.members v || contains more v)
-    now v = ap (λ x. contains x v) all ∙ contains-union nat_cmp_total s.members more v
-
-    same : (v : ℕ) → (contains s.members v ≡ true) ⊎ (contains s.members v ≡ false) → contains t.members v ≡ contains s.members v
-    same v either = ⊎_elim
-        (λ had. now v ∙ or_left _ _ had ∙ sym had)
-        (λ out. ⊎_elim
-        (λ new. absurd (let no = change.1 (v, (out, new)) in cc))
-        (λ none. none ∙ sym out)
-        (cases_Bool (contains t.members v)))
-        either
+    → (IsTrue r ↔ HasMore s.members t.members) → ((r ≡ false) ↔ (t.members ≡ s.members)) → IsChangeAt r b old new
+changed_at true b old new s t was is more same =
+    let found = more.0 refl in (found.0, (was found.0 ∙ found.1.0, is found.0 ∙ found.1.1))
+changed_at false b old new s t was is more same = λ v. is v ∙ ap (λ x. contains x v) (same.0 refl) ∙ sym (was v)
 
 module _ (g : List Body) (defined old : List Entities) (b : ℕ) (body : Body) (s d t : Entities) (after passed : FinSet nat_cmp)
     (ready : IsReady g defined old) (below : b < length g) (at_b : slice_get g b ≡ Some body) (was : slice_get old b ≡ Some s)
     (kills : slice_get defined b ≡ Some d) (any : (v : ℕ) → contains after v ≡ list_any (λ c. has old v c.0) body.1)
     (left : passed ≡ difference after d.members) (all : t.members ≡ union s.members passed) where
+  -- the set of block b after the visit
   now_at : (v : ℕ) → has (set old b t) v b ≡ contains t.members v
   now_at v = ap (λ (x : Entities). contains x.members v)
       (get_or-set_same old b t (record { members = empty; capacity = 0 }) (omega (arith, ready.count)))
 
+  -- the sets of the other blocks
   others_at : (v c : ℕ) → (c ≡ b → ⊥) → has (set old b t) v c ≡ has old v c
   others_at v c apart =
       ap (λ (x : Entities). contains x.members v) (get_or-set_other old b c t (record { members = empty; capacity = 0 }) apart)
 
+  -- block b has v if it had it or needs it
   here_at : (v : ℕ) → has (set old b t) v b ≡ (has old v b || needs g v (has old v) b)
   unfolding needs
   here_at v =
@@ -181,10 +176,11 @@ module _ (g : List Body) (defined old : List Entities) (b : ℕ) (body : Body) (
       (ready.has_exposed b below v)
 
   -- what the visit says
-  pub visited : (r : Bool) → (IsTrue r ↔ HasMore s.members t.members) → IsVisitOf g r b old (set old b t)
-  visited r change = record {
+  pub visited : (r : Bool) → (IsTrue r ↔ HasMore s.members t.members) → ((r ≡ false) ↔ (t.members ≡ s.members))
+      → IsVisitOf g r b old (set old b t)
+  visited r more same = record {
     each = λ v. record { here = here_at v; others = others_at v };
-    change = changed_at r b old (set old b t) s t passed (λ v. has_at old s v b was) now_at all change;
+    change = changed_at r b old (set old b t) s t (λ v. has_at old s v b was) now_at more same;
   }
 
   -- the sets still have what is exposed

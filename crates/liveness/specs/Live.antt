@@ -13,9 +13,13 @@ IsLivePath g v b (c ∷ rest) = (defines (block g b).0 v ≡ false) × (HasEdge 
 abbrev pub IsLive : List Body → ℕ → ℕ → Type 0
 IsLive g v b = (rest : List ℕ) × IsLivePath g v b rest
 
+-- v is live at a successor of b
+abbrev pub IsLiveAfter : List Body → ℕ → ℕ → Type 0
+IsLiveAfter g v b = (c : ℕ) × (HasEdge g b c × IsLive g v c)
+
 -- the flow equation: v is used in b before it is defined there, or isn't defined there and is live at a successor
 abbrev pub FlowsInto : List Body → ℕ → ℕ → Type 0
-FlowsInto g v b = HasExposedUse (block g b).0 v ⊎ ((defines (block g b).0 v ≡ false) × ((c : ℕ) × (HasEdge g b c × IsLive g v c)))
+FlowsInto g v b = HasExposedUse (block g b).0 v ⊎ ((defines (block g b).0 v ≡ false) × IsLiveAfter g v b)
 
 -- whether v is in the set of block b
 abbrev pub has : List Entities → ℕ → ℕ → Bool

@@ -52,7 +52,7 @@ abbrev pub HasGainedFrom : List Body → ℕ → ℕ → (ℕ → Bool) → ℕ 
 HasGainedFrom g p v m start =
     (p + 1 ≤ count_of m (length g)) ⊎ (HasGained g p v m × ((b : ℕ) → start ≤ b → b < length g → IsClosedAt g v m b))
 
--- of block b the answer is kept: it has v now if it had it or needs it; other blocks stand as before
+-- block b has v now if it had it or needs it; other blocks stand as before
 pub record IsVisit (g : List Body) (v b : ℕ) (old new : ℕ → Bool) : Type 0 where
   pub here : new b ≡ (old b || needs g v old b)
   pub others : (c : ℕ) → (c ≡ b → ⊥) → new c ≡ old c
@@ -62,12 +62,12 @@ abbrev pub IsChangeAt : Bool → ℕ → List Entities → List Entities → Typ
 IsChangeAt true b old new = (v : ℕ) × ((has old v b ≡ false) × (has new v b ≡ true))
 IsChangeAt false b old new = (v : ℕ) → has new v b ≡ has old v b
 
--- what a visit of block b says that answers r
+-- what a visit of block b does that returns r
 pub record IsVisitOf (g : List Body) (r : Bool) (b : ℕ) (old new : List Entities) : Type 0 where
   pub each : (v : ℕ) → IsVisit g v b (has old v) (has new v)
   pub change : IsChangeAt r b old new
 
--- what a pass from `old` to `new`, which goes from the last block down, says down to block `start`, if `changed` tells
+-- what a pass from `old` to `new`, which goes from the last block to the first, did down to block `start`, if `changed` tells
 -- whether a set changed
 pub record IsPassFrom (g : List Body) (changed : Bool) (old new : List Entities) (start : ℕ) : Type 0 where
   pub sound : ((v : ℕ) → IsSound g v (has old v)) → (v : ℕ) → IsSound g v (has new v)
@@ -75,7 +75,7 @@ pub record IsPassFrom (g : List Body) (changed : Bool) (old new : List Entities)
   pub more : (p : ℕ) → ((v : ℕ) → HasGained g p v (has old v)) → changed ≡ true → p + 1 ≤ length g
   pub closed : changed ≡ false → (v b : ℕ) → start ≤ b → b < length g → IsClosedAt g v (has new v) b
 
--- each of the first `end` blocks was looked at: its set has what it exposes, and what it defines is known
+-- each of the first `end` blocks was visited: its set has what it exposes, and what it defines is known
 pub record IsSurveyed (g : List Body) (end : ℕ) (defined sets : List Entities) : Type 0 where
   pub count_defined : length defined ≡ end
   pub count : length sets ≡ end

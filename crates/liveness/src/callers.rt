@@ -1,15 +1,15 @@
 //! Callers of the analysis, proved from its contracts alone.
-ghost use Rattle.std.specs.Prelude.{◌≡◌, ◌+◌, ◌*◌, ◌<◌, ◌≤◌, ◌↔◌, ℕ, false, length, IsTrue, IfOk};
-ghost use Rattle.liveness.specs.Graph.{block, HasEdge, HasExposedUse};
+ghost use Rattle.std.specs.Prelude.{◌≡◌, ◌+◌, ◌*◌, ◌<◌, ◌≤◌, ◌↔◌, ℕ, true, false, length};
+ghost use Rattle.std.specs.Prelude.{IsTrue, IfOk};
+ghost use Rattle.liveness.specs.Graph.{block, defines, HasEdge, HasExposedUse};
 ghost use Rattle.liveness.specs.Live.{IsLive};
 
 use crate::{Block, Graph, GraphRefusal, Op, Var, law_flow};
-use entity_set::EntitySet;
-use wic_vec::TryVec;
-use entity_set::EntityRef;
+use entity_set::{EntityRef, EntitySet};
 use std::alloc::Global;
 use std::sync::ledger::Ledger;
 use wic_base::{OutOfMemory, Steps};
+use wic_vec::TryVec;
 
 // Whether the value of `v` at the start of block `b` may still be used: what a register allocator asks first.
 pub fn may_be_used<L: Ledger>(
@@ -21,14 +21,14 @@ pub fn may_be_used<L: Ledger>(
 ) -> Result<bool, OutOfMemory>
     requires { b.0 < length graph.now.blocks }
     ensures exact { IfOk result (λ live. IsTrue live ↔ IsLive graph.now.blocks v.0 b.0) }
-    ensures looks {
-        steps.new ≤ steps.old + length graph.now.blocks * (length graph.now.blocks + 1) }
+    ensures looks { steps.new
+        ≤ steps.old + length graph.now.blocks * (length graph.now.blocks + 1) }
 {
     let sets = graph.live_in(alloc, steps)?;
     Ok(sets[b.index()].contains(v))
 }
 
-// A variable that a block without successors doesn't use is not live there.
+// Whether a variable is live at a block that has no successor and doesn't use it: it isn't, by the flow equation.
 pub fn is_used_at_exit<L: Ledger>(
     graph: &Graph,
     alloc: Global,
@@ -38,6 +38,23 @@ pub fn is_used_at_exit<L: Ledger>(
 ) -> Result<bool, OutOfMemory>
     requires within { b.0 < length graph.now.blocks }
     requires exit { (c : ℕ) → HasEdge graph.now.blocks b.0 c → ⊥ }
+    requires unused { HasExposedUse (block graph.now.blocks b.0).0 v.0 → ⊥ }
+    ensures { IfOk result (λ live. live ≡ false) }
+{
+    law_flow();
+    may_be_used(graph, alloc, b, v, steps)
+}
+
+// Whether a variable is live at a block that defines it and doesn't use it before: it isn't, by the flow equation.
+pub fn is_used_before_definition<L: Ledger>(
+    graph: &Graph,
+    alloc: Global,
+    b: Block,
+    v: Var,
+    steps: &mut Steps<L>,
+) -> Result<bool, OutOfMemory>
+    requires within { b.0 < length graph.now.blocks }
+    requires defined { defines (block graph.now.blocks b.0).0 v.0 ≡ true }
     requires unused { HasExposedUse (block graph.now.blocks b.0).0 v.0 → ⊥ }
     ensures { IfOk result (λ live. live ≡ false) }
 {

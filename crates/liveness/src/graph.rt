@@ -1,7 +1,9 @@
 //! A graph of blocks.
-ghost use Rattle.std.specs.Prelude.{◌≡◌, ℕ, ◌+◌, ◌<◌, ◌≤◌, [], ◌∷◌, ◌++◌, length, slice_get, Some, ◌↔◌, IfOk, OnOk, OnErr};
+ghost use Rattle.std.specs.Prelude.{◌≡◌, ℕ, ◌+◌, ◌<◌, ◌≤◌, [], ◌∷◌, ◌++◌, length, slice_get};
+ghost use Rattle.std.specs.Prelude.{Some, ◌↔◌, IfOk, OnOk, OnErr};
 ghost use Rattle.liveness.specs.Graph.{EdgesStayWithin, IsSuccessor, with_op, with_edge, var_of};
 ghost use Rattle.liveness.specs.Refusal.{IsFull};
+ghost use Rattle.liveness.specs.declared.graph.TheConstants.{MOST_BLOCKS};
 
 use entity_set::EntityRef;
 use std::alloc::Global;
@@ -10,10 +12,10 @@ use std::sync::ledger::Ledger;
 use wic_base::{OutOfMemory, Steps};
 use wic_vec::TryVec;
 
-/// The most blocks that a graph has.
-const MOST_BLOCKS: usize = 4294967295;
+/// The most blocks that a graph can have.
+pub const MOST_BLOCKS: usize = 4294967295;
 
-/// A block by its number: any number is one. Own.
+/// A block by its number: each `u32` is one.
 #[derive(Clone, Copy, Debug, PartialEq, Eq, PartialOrd, Ord, Hash)]
 pub struct Block(pub u32);
 
@@ -35,7 +37,7 @@ impl EntityRef for Block {
     }
 }
 
-/// A variable by its number: any number is one. Own.
+/// A variable by its number: each `u32` is one.
 #[derive(Clone, Copy, Debug, PartialEq, Eq, PartialOrd, Ord, Hash)]
 pub struct Var(pub u32);
 
@@ -57,21 +59,21 @@ impl EntityRef for Var {
     }
 }
 
-/// What stands in a block. Own.
+/// An op of a block.
 #[derive(Clone, Copy, Debug, PartialEq, Eq)]
 pub enum Op {
-    /// The value of the variable is read.
+    /// Reads the value of the variable.
     Use(Var),
-    /// The variable gets a new value.
+    /// Gives the variable a new value.
     Def(Var),
 }
 
-/// Why a block was not added. Own.
+/// Why a block was not added.
 #[derive(Debug, Drop)]
 pub enum GraphRefusal {
-    /// There are as many blocks as there can be.
+    /// The graph has `MOST_BLOCKS` blocks.
     Full,
-    /// There was no memory.
+    /// An allocation failed.
     Oom(OutOfMemory),
 }
 
@@ -85,7 +87,7 @@ impl From<OutOfMemory> for GraphRefusal {
     }
 }
 
-/// A block: its ops in order, and its successors. A contract sees the pair of both lists. Own.
+/// The body of a block: its ops in order, and its successors. A contract sees the pair of both lists.
 #[derive(Drop)]
 pub struct BlockBody {
     ops: TryVec<Op>,
@@ -102,9 +104,9 @@ impl Model for BlockBody {
     ghost view = { λ b. (b.ops.items, b.successors.items) };
 }
 
-/// A list of blocks, and how many variables there are. Own.
+/// A list of blocks, and the number of variables.
 ///
-/// A contract sees both; the blocks as a list of pairs of ops and successors.
+/// A contract sees both, and each block as the pair of its ops and its successors.
 #[derive(Drop)]
 pub struct Graph {
     blocks: TryVec<BlockBody>,
@@ -115,30 +117,32 @@ pub struct Graph {
 impl Model for Graph {
     ghost use Rattle.std.specs.Prelude.{◌≤◌, length};
     ghost use Rattle.liveness.specs.Graph.{Flow, EdgesStayWithin};
+    ghost use Rattle.liveness.specs.declared.graph.TheConstants.{MOST_BLOCKS};
 
     ghost Value = { Flow };
 
     ghost view = { λ g. record { blocks = g.blocks.items; vars = g.vars } };
 
-    ghost invariant = { λ g. EdgesStayWithin g.blocks.items × (length g.blocks.items ≤ 4294967295) };
+    ghost invariant = { λ g.
+        EdgesStayWithin g.blocks.items × (length g.blocks.items ≤ MOST_BLOCKS) };
 }
 
 impl BlockBody {
-    /// The ops, in order. Own.
+    /// The ops, in order.
     pub fn ops(&self) -> &[Op]
         ensures { result.now ≡ self.now.0 }
     {
         self.ops.as_slice()
     }
 
-    /// The successors, in the order in which the edges were added. Own.
+    /// The successors, in the order in which the edges were added.
     pub fn successors(&self) -> &[Block]
         ensures { result.now ≡ self.now.1 }
     {
         self.successors.as_slice()
     }
 
-    // An op more, the last.
+    // Adds an op, the last.
     fn push_op(&mut self, op: Op) -> Result<(), OutOfMemory>
         ensures added { OnOk result (self.new ≡ (self.old.0 ++ op ∷ [], self.old.1)) }
         ensures refusal_leaves { OnErr result (self.new ≡ self.old) }
@@ -146,7 +150,7 @@ impl BlockBody {
         self.ops.push(op)
     }
 
-    // A successor more, the last.
+    // Adds a successor, the last.
     fn push_successor(&mut self, to: Block) -> Result<(), OutOfMemory>
         ensures added { OnOk result (self.new ≡ (self.old.0, self.old.1 ++ to ∷ [])) }
         ensures refusal_leaves { OnErr result (self.new ≡ self.old) }
@@ -156,23 +160,23 @@ impl BlockBody {
 }
 
 impl Graph {
-    /// How many blocks there are: they are the numbers below. Each successor of a block is one of them. Own.
+    /// The number of blocks, at most `MOST_BLOCKS`. They are the numbers below it, and each successor of a block is one of them.
     pub fn blocks(&self) -> usize
         ensures count { result ≡ length self.now.blocks }
         ensures within { EdgesStayWithin self.now.blocks }
-        ensures few { result ≤ 4294967295 }
+        ensures few { result ≤ MOST_BLOCKS }
     {
         self.blocks.len()
     }
 
-    /// How many variables there are: they are the numbers below. Own.
+    /// The number of variables. They are the numbers below it.
     pub fn vars(&self) -> u32
         ensures { result ≡ self.now.vars }
     {
         self.vars
     }
 
-    /// The body of block `b`, which is below the number of blocks: one look. Own.
+    /// The body of block `b`, which is below the number of blocks. It counts one visit.
     pub fn look<L: Ledger>(&self, b: Block, steps: &mut Steps<L>) -> &BlockBody
         requires { b.0 < length self.now.blocks }
         ensures body { slice_get self.now.blocks b.0 ≡ Some result.now }
@@ -183,7 +187,7 @@ impl Graph {
         &self.blocks[b.0 as usize]
     }
 
-    /// No blocks, and so many variables. It takes no memory. Own.
+    /// A graph with no blocks and `vars` variables. It allocates nothing.
     pub fn new(alloc: Global, vars: u32) -> Graph
         ensures blocks { result.blocks ≡ [] }
         ensures vars { result.vars ≡ vars }
@@ -195,12 +199,12 @@ impl Graph {
         }
     }
 
-    /// A block more, the last, without ops and successors. `Full` comes exactly where there are 4294967295 blocks, before
-    /// memory is asked for. After a refusal the graph is as before. Own.
+    /// Adds a block, the last, without ops and successors, and returns it. It is refused by `Full` exactly if there are
+    /// `MOST_BLOCKS` blocks, before anything is allocated. After a refusal the graph is as before.
     pub fn add_block(&mut self) -> Result<Block, GraphRefusal>
         ensures last { IfOk result (λ b. b.0 ≡ length self.old.blocks) }
         ensures added { OnOk result (self.new.blocks ≡ self.old.blocks ++ ([], []) ∷ []) }
-        ensures full { IsFull result ↔ (length self.old.blocks ≡ 4294967295) }
+        ensures full { IsFull result ↔ (length self.old.blocks ≡ MOST_BLOCKS) }
         ensures vars { self.new.vars ≡ self.old.vars }
         ensures refusal_leaves { OnErr result (self.new ≡ self.old) }
     {
@@ -215,8 +219,8 @@ impl Graph {
         Ok(Block(block as u32))
     }
 
-    /// An op more in block `b`, the last there. `b` is below the number of blocks, and the variable below that of variables.
-    /// After a refusal the graph is as before. Own.
+    /// Adds an op to block `b`, the last there. `b` is below the number of blocks, and the variable below that of variables.
+    /// After a refusal the graph is as before.
     pub fn add_op(&mut self, b: Block, op: Op) -> Result<(), OutOfMemory>
         requires block { b.0 < length self.old.blocks }
         requires var { var_of op < self.old.vars }
@@ -227,8 +231,8 @@ impl Graph {
         self.blocks[b.0 as usize].push_op(op)
     }
 
-    /// An edge from the one block to the other, both below the number of blocks: `to` is the last of the successors of
-    /// `from`. After a refusal the graph is as before. Own.
+    /// Adds an edge, so that `to` is the last of the successors of `from`. Both are below the number of blocks. After a
+    /// refusal the graph is as before.
     pub fn add_edge(&mut self, from: Block, to: Block) -> Result<(), OutOfMemory>
         requires source { from.0 < length self.old.blocks }
         requires target { to.0 < length self.old.blocks }

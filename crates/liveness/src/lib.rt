@@ -1,9 +1,10 @@
 //! Which variables are live at the start of each block of a graph: those whose value there may still be used.
 //!
-//! A [`Graph`] has blocks, each with ops, which use and define variables, and with successors. A use is exposed in its block
-//! where no op before it in the block defines its variable. A variable is live at a block where a path of successors, which
-//! may have no edge, leads from there to a block that exposes a use of it, and no block before that one defines it. What
-//! [`Graph::live_in`] promises is said in these words, of paths; that it makes passes over sets is its own affair.
+//! A [`Graph`] has blocks, each with ops, which use and define variables, and with successors. A use is exposed in its block if no
+//! op before it in the block defines its variable. A variable is live at a block if a path of successors, which may have no edge,
+//! leads from there to a block that exposes a use of it, and no block before that one defines it. The contract of
+//! [`Graph::live_in`] speaks of these paths and not of passes over sets. [`law_flow`] has the same as an equation: live at a block is
+//! what is used there before any definition, and what isn't defined there and is live at a successor.
 //!
 //! Two graphs with the variables that are live at each block:
 //!
@@ -20,30 +21,22 @@
 //!
 //! # Example
 //!
+//! `callers::may_be_used` tells a register allocator exactly whether the value of `v` at the start of block `b` may still be used:
+//!
 //! ```
-//! // What a register allocator asks first: may the value of `v` at the start of block `b` still be used?
-//! let sets = graph.live_in(alloc, steps)?;
-//! Ok(sets[b.index()].contains(v))
+//! pub fn may_be_used<L: Ledger>(graph: &Graph, alloc: Global, b: Block, v: Var, steps: &mut Steps<L>) -> Result<bool, OutOfMemory>
 //! ```
 //!
-//! It is proved, as `may_be_used` in `src/callers.rt`: the answer is true exactly where there is such a path.
+//! # Costs, and out of memory
 //!
-//! # Costs
-//!
-//! `add_block`, `add_op`, `add_edge` and `look` take amortised constant time. `live_in` looks at each block once and then in
-//! each pass. For n blocks that is at most n (n + 1) looks, which is a clause. In a pass a block takes a step for each
-//! successor and 64 variables. Where blocks are numbered as they are written, only edges back to earlier blocks need
-//! passes beyond two: most graphs take two or three.
-//!
-//! # On want of memory
-//!
-//! The calls that add to a graph leave it as it was where they are refused. `live_in` takes memory for two sets a block, and
-//! leaves the graph in any case; the looks are within the bound after a refusal too.
+//! `add_block`, `add_op` and `add_edge` take amortised constant time, and leave the graph as before if they are refused. For n
+//! blocks `live_in` makes at most n (n + 1) visits, also if it is refused: this is a clause. The first visit of a block reads its
+//! ops, a later one takes a step for each successor and 64 variables. It allocates two sets per block, and one for all visits.
 //!
 //! # What it doesn't protect against
 //!
-//! A set is as large as the greatest variable in it, whatever the count: number variables from 0 on. Blocks and variables of
-//! another graph are taken for those of this one where their numbers are in range.
+//! A set is as large as its greatest variable: number variables from 0 on. Blocks and variables of another graph are taken for
+//! those of this one if their numbers are in range.
 #![tactic(auto)]
 
 #[cfg(test)]
@@ -54,5 +47,5 @@ mod live;
 #[cfg(test)]
 mod tests;
 
+pub use graph::{Block, BlockBody, Graph, GraphRefusal, MOST_BLOCKS, Op, Var};
 pub use laws::law_flow;
-pub use graph::{Block, BlockBody, Graph, GraphRefusal, Op, Var};

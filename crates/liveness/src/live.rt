@@ -1,5 +1,5 @@
 //! The variables that are live at the start of each block.
-ghost use Rattle.std.specs.Prelude.{◌≡◌, ℕ, ◌+◌, ◌*◌, ◌<◌, ◌≤◌, ◌||◌, ◌&&◌, not, length, IfOk, OnOk};
+ghost use Rattle.std.specs.Prelude.{◌≡◌, ℕ, ◌+◌, ◌*◌, ◌<◌, ◌≤◌, length, IfOk, OnOk};
 ghost use Rattle.std.specs.FinSet as fin_set;
 ghost use Rattle.std.specs.List.{list_any};
 ghost use Rattle.liveness.specs.Graph.{defines, EdgesStayWithin, IsSuccessor};
@@ -13,8 +13,8 @@ use std::sync::ledger::Ledger;
 use wic_base::{OutOfMemory, Steps};
 use wic_vec::TryVec;
 
-/// What is known so far of each block: the variables that it defines, and those that were found live at it. The variables live after a
-/// block are collected in one set, which each visit uses again.
+/// What is known so far of each block: the variables that it defines, and those that were found live at it. The variables
+/// that are live after a block are collected in one set, which each visit uses again.
 #[derive(Drop)]
 struct Found {
     defined: TryVec<EntitySet<Var>>,
@@ -24,24 +24,29 @@ struct Found {
 
 impl Graph {
     /// For each block, in order, the variables that are live there: those for which a path of successors leads from the
-    /// block to a use before any definition. It is refused only if an allocation fails. For n blocks `steps` counts at most
-    /// n (n + 1) visits, also if it is refused.
+    /// block to a use before any definition. For n blocks it counts at most n (n + 1) visits, also if it is refused, which
+    /// it is only if an allocation fails. The graph stays in any case.
     ///
     /// A first visit of each block finds what it exposes and what it defines. Then pass follows pass over all blocks, until
     /// one changes no set; each works on whole sets, 64 variables at a time. A pass goes from the last block to the first,
     /// since liveness flows backwards: if blocks are numbered as they are written, only an edge back to an earlier block
-    /// needs a further pass, so that most graphs take two or three.
+    /// needs a further pass, so most graphs take two or three.
     pub fn live_in<L: Ledger>(
         &self,
         alloc: Global,
         steps: &mut Steps<L>,
     ) -> Result<TryVec<EntitySet<Var>>, OutOfMemory>
         ensures live { IfOk result (λ sets. AreLive self.now.blocks sets.items) }
-        ensures looks { steps.new ≤ steps.old + length self.now.blocks * (length self.now.blocks + 1) }
+        ensures looks { steps.new
+            ≤ steps.old + length self.now.blocks * (length self.now.blocks + 1) }
     {
         let mut found = self.survey(alloc, steps)?;
         while self.pass(&mut found, steps)? {}
-        let Found { defined: _, live, after: _ } = found;
+        let Found {
+            defined: _,
+            live,
+            after: _,
+        } = found;
         Ok(live)
     }
 
@@ -134,7 +139,7 @@ fn effect_of(alloc: Global, ops: &[Op]) -> Result<(EntitySet<Var>, EntitySet<Var
     Ok((defined, exposed))
 }
 
-// Makes `after` the variables in the sets of a block's successors, in the room that it has, if that is enough.
+// Makes `after` the variables in the sets of a block's successors. It grows only if they don't fit.
 fn collect_after(
     after: &mut EntitySet<Var>,
     body: &BlockBody,

@@ -1,7 +1,9 @@
 //! The worked graphs, and random graphs beside a search along paths.
 ghost use Rattle.std.specs.Prelude.{◌≡◌, ◌<◌};
 
-use crate::callers::{live_in_none, live_in_three, live_in_two, loop_of_three, loop_of_two, may_be_used};
+use crate::callers::{
+    live_in_none, live_in_three, live_in_two, loop_of_three, loop_of_two, may_be_used,
+};
 use crate::{Block, Graph, Op, Var};
 use entity_set::EntitySet;
 use std::alloc::{AllocError, Global};
@@ -46,7 +48,7 @@ fn has_live<L: Ledger>(
     Ok(are_just(&sets, lists))
 }
 
-// Whether the variables of a set have just these numbers, which rise.
+// Whether the variables of a set have just these numbers, which ascend.
 fn has_just(set: &EntitySet<Var>, numbers: &[u32]) -> bool {
     let mut numbers = numbers.iter();
     for var in set {
@@ -173,7 +175,7 @@ fn random_graph(alloc: Global, seed: &mut u64) -> Result<Plain, AllocError> {
     Ok(plain)
 }
 
-// An op more, where there are such a block and such a variable.
+// Adds an op, if there are such a block and such a variable.
 fn add(graph: &mut Graph, b: u32, op: Op) -> Result<(), OutOfMemory> {
     if (b as usize) < graph.blocks() {
         match op {
@@ -192,7 +194,7 @@ fn add(graph: &mut Graph, b: u32, op: Op) -> Result<(), OutOfMemory> {
     Ok(())
 }
 
-// An edge more, where there are such blocks.
+// Adds an edge, if there are such blocks.
 fn connect(graph: &mut Graph, from: u32, to: u32) -> Result<(), OutOfMemory> {
     if (from as usize) < graph.blocks() && (to as usize) < graph.blocks() {
         graph.add_edge(Block(from), Block(to))?;

@@ -1,4 +1,4 @@
 use Rattle.liveness.proofs.tests.a_loop_uses_what_comes_in_and_defines_what_goes_out.Given as goal
 
-abbrev pub ghosts-live_in : goal.ghosts-live_in
-ghosts-live_in g a = record { name = a.blank.name; parts = a.blank.parts }
+abbrev pub ghosts-has_live : goal.ghosts-has_live
+ghosts-has_live g a = record { name = a.blank.name; parts = a.blank.parts }

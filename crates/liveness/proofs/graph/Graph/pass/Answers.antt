@@ -9,10 +9,10 @@ loop-b-preserved g c =
     let looks = c.visit.ensures.looks in
     let so_far = was.looks in
     record {
-      ready = c.in_ok-visit.ensures.ready;
+      ready = c.in_ok-added.ensures.ready;
       pass = goes_on c.args.self.now.blocks c.loop-b.changed _ c.args.found.now.live.items
           c.loop-b.found.live.items c.visit.new.found.live.items c.loop-b.b (c.loop-b.b - 1) down was.within was.pass
-          c.in_ok-visit.ensures.visit;
+          c.in_ok-added.ensures.visit;
       within = let h = was.within in omega arith;
       looks = omega arith;
     }
