@@ -1,15 +1,15 @@
 -- What a step leaves of the other handles.
-use Rattle.std.proofs.Common.{◌≡◌, ◌≢◌, ℕ, Some, None, is_some, sym, ap, ◌∙◌}
+use Rattle.std.proofs.Common.{◌≡◌, ◌≢◌, ℕ, Some, None, is_some, sym, subst, ap, ◌∙◌}
 use Rattle.std.specs.Prelude.{IsSome}
 use Rattle.std.specs.Option.{option_and_then}
-use Rattle.std.specs.FinMap.{get, len}
+use Rattle.std.specs.FinMap.{get}
 use Rattle.wic_base.proofs.MapFacts.{get-insert_other, get-remove_other, len-insert_again, contains_key-insert_again, none_from_not_some}
 use Rattle.wic_slab.specs.Order.{BelongsTo, next_id}
 use Rattle.wic_slab.proofs.OrderFacts.{next_id_not_live}
 use Rattle.gen_slab.specs.Handle.{Handle}
-use Rattle.gen_slab.specs.GenSlab.{GenState, IsGenState, KeepsLive, KeepsOthers, StaysSound, WritesOnly}
-use Rattle.gen_slab.specs.GenSlab.{value_in, value_of, with_next, without, rewritten}
-use Rattle.gen_slab.proofs.StaleFacts.{live_held, same_held, counted_rewritten, still_gone_rewritten}
+use Rattle.gen_slab.specs.GenSlab.{GenState, IsCounted, IsGenState, IsGone, KeepsLive, KeepsOthers, StaysSound, WritesOnly}
+use Rattle.gen_slab.specs.GenSlab.{last_count, value_in, value_of, with_next, without, rewritten}
+use Rattle.gen_slab.proofs.StaleFacts.{live_held, same_held, counted_rewritten, still_gone_next, still_gone_without, still_gone_rewritten}
 
 module _ {X : Type 0} where
   -- a handle of the next id isn't live
@@ -70,4 +70,29 @@ module _ {X : Type 0} where
       sound = sound_rewritten s handle value sound some;
       gone = λ other gone. still_gone_rewritten s handle other value some gone;
     };
+  }
+
+  -- a held value keeps the live handles, in whatever state is the one with it
+  pub keeps_next : (old new : GenState X) (value : X) → BelongsTo old.order old.live → new ≡ with_next old value → KeepsLive old new
+  keeps_next old new value belongs is = subst (KeepsLive old) (sym is) (kept_next old value belongs)
+
+  -- holding a value leaves a sound state, in which what was gone is gone
+  pub stays_next : (old new : GenState X) (value : X) → IsGenState new → old.count ≢ last_count → new ≡ with_next old value
+      → StaysSound old new
+  stays_next old new value sound apart is = record {
+    sound = sound;
+    gone = λ handle gone. subst (λ s. IsGone s handle) (sym is) (still_gone_next old value handle apart gone);
+  }
+
+  -- a value that is taken out keeps the other live handles
+  pub keeps_without : (old new : GenState X) (handle : Handle) → IsSome (value_of old handle) → new ≡ without old handle
+      → KeepsOthers handle old new
+  keeps_without old new handle some is = subst (KeepsOthers handle old) (sym is) (kept_without old handle some)
+
+  -- taking a value out leaves a sound state, in which what was gone is gone
+  pub stays_without : (old new : GenState X) (handle : Handle) → IsGenState new → IsCounted old → new ≡ without old handle
+      → StaysSound old new
+  stays_without old new handle sound was is = record {
+    sound = sound;
+    gone = λ other gone. subst (λ s. IsGone s other) (sym is) (still_gone_without old handle other was gone);
   }
