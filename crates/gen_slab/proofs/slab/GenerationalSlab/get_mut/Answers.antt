@@ -5,9 +5,12 @@ use Rattle.gen_slab.proofs.slab.GenerationalSlab.get_mut.Goals as goal
 
 pub returns-then-contains : goal.returns-then-contains
 returns-then-contains g c =
-    let some : is_some (value_of c.args.self.now.state c.args.handle) ≡ true = sym c.contains.ensures.live ∙ c.if-contains.true in
-    (refl, record {
-      writes_back = tt;
-      value = sym c.value_mut.ensures.value;
-      written = writes_only c.args.self.now.state c.args.handle c.len.ensures.sound some;
-    })
+    let some : is_some (value_of c.args.self.now.state c.args.handle) ≡ true = sym c.contains.ensures.live ∙ c.if-contains.true in (
+      refl,
+      record {
+        writes_back = tt;
+        value = sym c.value_mut.ensures.value;
+        written = writes_only c.args.self.now.state c.args.handle c.len.ensures.sound some;
+        sound = c.len.ensures.sound;
+      },
+    )
