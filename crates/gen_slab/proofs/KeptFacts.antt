@@ -4,20 +4,23 @@ use Rattle.std.specs.Prelude.{IsSome}
 use Rattle.std.specs.Option.{option_and_then}
 use Rattle.std.specs.FinMap.{get, insert, remove}
 use Rattle.std.proofs.lemmas.Bool.{cases_eq}
-use Rattle.wic_base.proofs.MapFacts.{get-insert_same, get-insert_other, get-remove_same, get-remove_other, len-insert_again, contains_key-insert_again, none_from_not_some}
+use Rattle.wic_base.proofs.MapFacts.{get-insert_same, get-insert_other, get-remove_same, get-remove_other}
+use Rattle.wic_base.proofs.MapFacts.{len-insert_again, contains_key-insert_again, none_from_not_some}
 use Rattle.wic_slab.specs.Order.{BelongsTo, next_id, take_next, give_back}
 use Rattle.wic_slab.proofs.OrderFacts.{next_id_not_live}
 use Rattle.gen_slab.specs.Handle.{Handle}
 use Rattle.gen_slab.specs.GenSlab.{GenState, IsCounted, IsGenState, KeepsGone, KeepsLive, KeepsOthers, WritesOnly}
 use Rattle.gen_slab.specs.GenSlab.{last_count, value_in, value_of, with_next, without, rewritten}
-use Rattle.gen_slab.proofs.StaleFacts.{none_in, live_held, same_held, counted_rewritten, still_gone_next, still_gone_without, still_gone_rewritten}
+use Rattle.gen_slab.proofs.StaleFacts.{none_in, live_held, same_held, counted_rewritten}
+use Rattle.gen_slab.proofs.StaleFacts.{still_gone_next, still_gone_without, still_gone_rewritten}
 
 module _ {X : Type 0} where
   -- a handle of the next id isn't live
   pub next_was_dead : (s : GenState X) (generation : ℕ) → BelongsTo s.order s.live
       → value_of s (record { id = next_id s.order; generation = generation }) ≡ None
   next_was_dead s generation belongs =
-      ap (option_and_then (value_in generation)) (none_from_not_some (get s.live (next_id s.order)) (next_id_not_live s.order s.live belongs))
+      ap (option_and_then (value_in generation))
+      (none_from_not_some (get s.live (next_id s.order)) (next_id_not_live s.order s.live belongs))
 
   -- two live handles of one id are the same
   one_live : (s : GenState X) (a b : Handle) → IsSome (value_of s a) → IsSome (value_of s b) → a.id ≡ b.id → a ≡ b
