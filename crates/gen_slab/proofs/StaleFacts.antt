@@ -42,7 +42,7 @@ not_now generation count (inr same) apart = absurd (apart same)
 
 module _ {X : Type 0} where
   -- another generation finds nothing
-  none_in : (generation : ℕ) (held : Held X) → held.generation ≢ generation → value_in generation held ≡ None
+  pub none_in : (generation : ℕ) (held : Held X) → held.generation ≢ generation → value_in generation held ≡ None
   none_in generation held apart =
       ap (λ test. if test then Some held.value else None) (other_number held.generation generation apart)
 

@@ -1,5 +1,5 @@
 -- What a contract sees of a generational slab.
-use Rattle.std.specs.Prelude.{◌≡◌, ◌≢◌, ◌⊎◌, ℕ, ◌+◌, ◌<◌, ◌≤◌, ◌==◌, if◌then◌else◌, List, Option, Some, None, map, min, refl}
+use Rattle.std.specs.Prelude.{◌≡◌, ◌≢◌, ◌⊎◌, ℕ, ◌+◌, ◌<◌, ◌≤◌, ◌==◌, if◌then◌else◌, List, Option, Some, None, IsSome, map, min, refl}
 use Rattle.std.specs.Ordering.{nat_cmp}
 use Rattle.std.specs.Option.{option_and_then}
 use Rattle.std.specs.FinMap.{FinMap, code, get, insert, remove, len}
@@ -100,20 +100,41 @@ module _ {T : Type 0} where
 
   -- each live handle keeps its value
   abbrev pub KeepsLive : GenState T → GenState T → Type 0
-  KeepsLive old new = (handle : Handle) (value : T) → value_of old handle ≡ Some value → value_of new handle ≡ Some value
+  KeepsLive old new = (handle : Handle) → IsSome (value_of old handle) → value_of new handle ≡ value_of old handle
 
-  -- each live handle but this one keeps its value
+  -- each handle but this one finds what it found
   abbrev pub KeepsOthers : Handle → GenState T → GenState T → Type 0
-  KeepsOthers handle old new =
-      (other : Handle) (value : T) → other ≢ handle → value_of old other ≡ Some value → value_of new other ≡ Some value
+  KeepsOthers handle old new = (other : Handle) → other ≢ handle → value_of new other ≡ value_of old other
 
-  -- the invariant holds, and handles that are gone stay gone
-  pub record StaysSound (old new : GenState T) : Type 0 where
-    pub sound : IsGenState new
-    pub gone : (handle : Handle) → IsGone old handle → IsGone new handle
+  -- what is gone stays gone
+  abbrev pub KeepsGone : GenState T → GenState T → Type 0
+  KeepsGone old new = (handle : Handle) → IsGone old handle → IsGone new handle
 
-  -- what any write under a live handle leaves: the number of values, the values of the other live handles, the invariant
+  -- the handle differs from each live one
+  abbrev pub IsNew : GenState T → Handle → Type 0
+  IsNew s handle = (other : Handle) → IsSome (value_of s other) → handle ≢ other
+
+  -- what holding a value under a handle makes of a state
+  pub record Holds (old new : GenState T) (value : T) (handle : Handle) : Type 0 where
+    -- the handle is the next one, and differs from each live one
+    pub handle_is : handle ≡ next_handle old
+    pub is_new : IsNew old handle
+    -- the value is held under it, and is found by it
+    pub state : new ≡ with_next old value
+    pub found : value_of new handle ≡ Some value
+    pub one_more : len new.live ≡ len old.live + 1
+
+  -- what taking out the value of a handle makes of a state
+  pub record TakesOut (old new : GenState T) (handle : Handle) : Type 0 where
+    pub state : new ≡ without old handle
+    pub one_less : len new.live + 1 ≡ len old.live
+    -- the handle is gone for good
+    pub gone : IsGone new handle
+
+  -- what any write under a live handle keeps: the number of values, what the other handles find, what is gone, and the
+  -- invariant
   pub record WritesOnly (s : GenState T) (handle : Handle) : Type 0 where
     pub same_len : (value : T) → len (rewritten s handle value).live ≡ len s.live
     pub keeps : (value : T) → KeepsOthers handle s (rewritten s handle value)
-    pub stays : (value : T) → StaysSound s (rewritten s handle value)
+    pub keeps_gone : (value : T) → KeepsGone s (rewritten s handle value)
+    pub sound : (value : T) → IsGenState (rewritten s handle value)

@@ -8,9 +8,9 @@
 //! pub fn open_and_close_twice(table: &mut GenerationalSlab<Resource>, resource: Resource) -> Result<bool, GenRefusal>
 //! ```
 //!
-//! The second `dealloc` finds nothing. `callers` has it, in a resource table of several kinds, proved. A caller that is lent
-//! a slab learns of other handles from each call: live ones keep their values (`keeps`), and what is gone stays gone
-//! (`stays`). `laws::law_stale` says the same over whole runs.
+//! The second `dealloc` finds nothing. `callers` has it, in a resource table of several kinds, proved. A function that is
+//! lent a slab learns of other handles from each call: live ones keep their values (`keeps`), and a handle whose value was
+//! taken out is gone and stays gone (`keeps_gone`). `laws::law_stale` says the same over whole runs.
 //!
 //! **What it doesn't protect against.** A handle of one slab may be live in another: keep them apart if you have several. A
 //! handle is no secret: whoever guesses numbers may find a live one. After 4294967296 values were taken out nothing can be

@@ -6,8 +6,8 @@ ghost use Rattle.std.specs.Option.{option_copied_mut};
 ghost use Rattle.std.specs.Borrow.{sem};
 ghost use Rattle.std.specs.FinMap.{empty, len};
 ghost use Rattle.wic_slab.specs.Order.{from_zero, max_capacity};
-ghost use Rattle.gen_slab.specs.GenSlab.{IsGenState, IsGone, KeepsLive, KeepsOthers, StaysSound, WritesOnly};
-ghost use Rattle.gen_slab.specs.GenSlab.{last_count, next_handle, value_of, with_next, without};
+ghost use Rattle.gen_slab.specs.GenSlab.{Holds, IsGenState, KeepsGone, KeepsLive, KeepsOthers, TakesOut, WritesOnly};
+ghost use Rattle.gen_slab.specs.GenSlab.{last_count, value_of};
 
 use crate::id::GenerationalId;
 use std::alloc::Global;
@@ -90,27 +90,23 @@ impl<T> GenerationalSlab<T> {
         }
     }
 
-    /// Holds `value` under the next id, with the count as its generation, and returns that handle. There must be fewer than
-    /// 4294967294 values. `Spent` comes exactly if the count is 4294967296, before any allocation; `Oom` only if as
-    /// many values are held as the capacity. After a refusal all is as before, and `value` is dropped.
+    /// Holds `value` under the next id, with the count as its generation, and returns that handle, which differs from each live
+    /// one. There must be fewer than 4294967294 values. Live handles keep their values. `Spent` comes exactly if the count is
+    /// 4294967296, before any allocation; `Oom` only if as many values are held as the capacity. After a refusal all is as
+    /// before, and `value` is dropped.
     pub fn alloc(&mut self, value: T) -> Result<GenerationalId, GenRefusal>
     where
         T: Drop,
         requires { len self.old.state.live < max_capacity }
-        ensures handle { IfOk result (λ handle. handle ≡ next_handle self.old.state) }
-        ensures held { OnOk result (self.new.state ≡ with_next self.old.state value) }
-        ensures found { IfOk result (λ handle. value_of self.new.state handle ≡ Some value) }
-        ensures one_more { OnOk result (len self.new.state.live ≡ len self.old.state.live + 1) }
+        ensures holds { IfOk result (Holds self.old.state self.new.state value) }
         ensures spent { (result ≡ Err GenRefusal.Spent) ↔ (self.old.state.count ≡ last_count) }
         ensures refused_only_full { OnErr result
             (self.old.state.count < last_count → len self.old.state.live ≡ self.old.capacity) }
         ensures refusal_leaves { OnErr result (self.new ≡ self.old) }
         ensures capacity_never_falls { self.old.capacity ≤ self.new.capacity }
-
-        // Other handles: the new one was not live, live ones keep their values, and what is gone stays gone.
-        ensures was_dead { IfOk result (λ handle. value_of self.old.state handle ≡ None) }
         ensures keeps { KeepsLive self.old.state self.new.state }
-        ensures stays { StaysSound self.old.state self.new.state }
+        ensures keeps_gone { KeepsGone self.old.state self.new.state }
+        ensures sound { IsGenState self.new.state }
     {
         // For the proof: the state is sound.
         let _ = self.len();
@@ -141,11 +137,13 @@ impl<T> GenerationalSlab<T> {
     }
 
     /// The value of a handle, to be read and written, or `None` exactly if it isn't live. Writes through the reference change
-    /// that value, and all else stays: `written` says so of the number of values and of other handles, whatever is written.
+    /// that value, and all else stays. `written` says that whatever is written the number of values stays and the other
+    /// handles find what they found.
     pub fn get_mut(&mut self, handle: GenerationalId) -> Option<&mut T>
         ensures* writes_back { sem 𝓛 (lends_get T.row self.entry handle result) }
         ensures value { option_copied_mut result ≡ value_of self.old.state handle }
         ensures written { OnSome result (WritesOnly self.old.state handle) }
+        ensures sound { IsGenState self.old.state }
     {
         // For the proof: the state is sound.
         let _ = self.len();
@@ -173,20 +171,17 @@ impl<T> GenerationalSlab<T> {
     }
 
     /// Takes out the value of a handle and frees its id; the count rises by one, but not beyond 4294967296. `None` comes
-    /// exactly if the handle isn't live, and then nothing changes. A handle whose value was taken out is gone for good.
+    /// exactly if the handle isn't live, and then nothing changes. A handle whose value was taken out is gone for good. The
+    /// other handles find what they found.
     pub fn dealloc(&mut self, handle: GenerationalId) -> Option<T>
         ensures value { result ≡ value_of self.old.state handle }
-        ensures taken { IfSome result (λ _. self.new.state ≡ without self.old.state handle) }
-        ensures one_less { OnSome result
-            (len self.new.state.live + 1 ≡ len self.old.state.live) }
+        ensures takes_out { OnSome result (TakesOut self.old.state self.new.state handle) }
         ensures gone { value_of self.new.state handle ≡ None }
         ensures none_leaves { IfNone result (self.new ≡ self.old) }
         ensures capacity_stays { self.new.capacity ≡ self.old.capacity }
-
-        // Handles: this one is gone, the other live ones keep their values, and what was gone stays gone.
-        ensures gone_for_good { OnSome result (IsGone self.new.state handle) }
         ensures keeps { KeepsOthers handle self.old.state self.new.state }
-        ensures stays { StaysSound self.old.state self.new.state }
+        ensures keeps_gone { KeepsGone self.old.state self.new.state }
+        ensures sound { IsGenState self.new.state }
     {
         // For the proof: the state is sound.
         let _ = self.len();
