@@ -240,7 +240,6 @@ impl Graph {
         ensures vars { self.new.vars ≡ self.old.vars }
         ensures refusal_leaves { OnErr result (self.new ≡ self.old) }
     {
-        self.blocks[from.0 as usize].push_successor(to)?;
-        Ok(())
+        self.blocks[from.0 as usize].push_successor(to)
     }
 }

@@ -1,27 +1,31 @@
-use Rattle.std.proofs.Common.{ap, ◌∙◌}
+use Rattle.std.proofs.Common.{◌≡◌, ◌∙◌, ap, sym, subst, List}
+use Rattle.std.specs.Prelude.{slice_set}
 use Rattle.std.proofs.Math.ListN.{length-set}
-use Rattle.std.proofs.lemmas.Result.{err_from_is_err_and}
-use Rattle.liveness.specs.Graph.{Body, Flow}
-use Rattle.std.proofs.Common.{List}
+use Rattle.std.proofs.lemmas.Result.{on_ok_weaker, on_err_weaker}
+use Rattle.entity_set.proofs.KeysFacts.{either_way}
+use Rattle.liveness.specs.Graph.{Body, Flow, EdgesStayWithin}
 use Rattle.liveness.proofs.GraphFacts.{set_kept, edges_added, edge_added}
 use Rattle.liveness.proofs.graph.Graph.add_edge.Goals as goal
 
-pub returns-in_err-push_successor-clause-refusal_leaves :
-    goal.returns-in_err-push_successor-clause-refusal_leaves
-returns-in_err-push_successor-clause-refusal_leaves c =
-    let p = err_from_is_err_and c.from_residual.result c.from_residual.ensures.1 in
-    let kept = set_kept _ _ _ _ c.index_mut.ensures.item c.in_err-push_successor.ensures.refusal_leaves in
-    rw p.1 (ap (λ (bs : List Body). record { blocks = bs; vars = c.self.inside.vars }) kept ∙ c.self.view_is)
-
-pub invariant_of-self-2 : goal.invariant_of-self-2
-invariant_of-self-2 c =
+pub invariant_of-self : goal.invariant_of-self
+invariant_of-self c =
     let seen = ap (λ (x : Flow). x.blocks) c.self.view_is in (
-      edges_added _ _ c.args.to _ _ (rw seen c.requires.source) (rw seen c.requires.target) c.self.invariant.0
-          c.index_mut.ensures.item c.in_ok-push_successor.ensures.added,
+      either_way c.push_successor.result c.push_successor.ensures.added c.push_successor.ensures.refusal_leaves
+          (λ added. edges_added _ _ c.args.to _ _ (rw seen c.requires.source) (rw seen c.requires.target) c.self.invariant.0
+          c.index_mut.ensures.item added)
+          (λ kept. subst EdgesStayWithin (sym (set_kept _ _ _ _ c.index_mut.ensures.item kept)) c.self.invariant.0),
       rw length-set c.self.invariant.1,
     )
 
 pub returns-clause-added : goal.returns-clause-added
 returns-clause-added c =
     let seen = ap (λ (x : Flow). x.blocks) c.self.view_is in
-    rw (← seen) (edge_added _ _ _ _ _ c.index_mut.ensures.item c.in_ok-push_successor.ensures.added)
+    rw (← seen) (on_ok_weaker c.push_successor.result (edge_added _ _ c.args.to _ _ c.index_mut.ensures.item)
+    c.push_successor.ensures.added)
+
+pub returns-clause-refusal_leaves : goal.returns-clause-refusal_leaves
+returns-clause-refusal_leaves c =
+    let flow : List Body → Flow = λ bs. record { blocks = bs; vars = c.self.inside.vars } in
+    on_err_weaker {P = c.push_successor.new.self ≡ c.index_mut.result.now}
+    {Q = flow (slice_set c.self.inside.blocks.items c.args.from.0 c.push_successor.new.self) ≡ c.args.self.now} c.push_successor.result
+    (λ kept. ap flow (set_kept _ _ _ _ c.index_mut.ensures.item kept) ∙ c.self.view_is) c.push_successor.ensures.refusal_leaves
