@@ -154,7 +154,7 @@ pub fn all_digits(
 }
 
 // Why numbers are not collected.
-#[derive(Debug, Drop)]
+#[derive(Debug, Drop, PartialEq)]
 pub enum Refusal {
     Oom,
     Number(u32),
