@@ -19,7 +19,7 @@ module _ {F R : Type 0} (call : F → ℕ → R → F → Type 0) where
       let longer : suc n + 1 ≡ suc (n + 1) = omega arith in
       ap (range_with_len from) longer ∙ ap (λ l. from ∷ l) (range_more (from + 1) n j (omega arith))
 
-  -- where the calls at the numbers below i were made, one more at i makes those at the numbers below i + 1
+  -- the calls at the numbers below i, and one more at i, are those at the numbers below i + 1
   pub one_more_call : (f mid last : F) (i : ℕ) (rs : List R) (r : R) → ClosureRun call f (range_with_len 0 i) rs mid
       → call mid i r last → ClosureRun call f (range_with_len 0 (i + 1)) (rs ++ r ∷ []) last
   one_more_call f mid last i rs r run step =

@@ -14,6 +14,6 @@ module _ {T E : Type 0} (items : List (Result T E)) where
       × (i : ℕ) × (length items ≡ i + 1) × ((d : Result T E) → slice_index_or items i d ≡ Err e)
       × ((k : ℕ) (d : Result T E) → k < i → IsOk (slice_index_or items k d))
 
-  -- the same, or e is made of an out of memory
+  -- the same, or e is what `from` makes of an out of memory
   abbrev pub EndInError : (ℕ → E → Type 0) → E → Type 0
   EndInError from_gives e = EndWithError e ⊎ ((oom : ℕ) × from_gives oom e)

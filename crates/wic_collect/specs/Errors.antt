@@ -5,7 +5,7 @@ use Rattle.wic_collect.specs.declared.errors.BoxedSliceFromFallibleIterError.The
 use Rattle.wic_collect.specs.declared.errors.TooFewItemsOrOom.{TooFewItemsOrOom}
 use Rattle.wic_collect.specs.declared.errors.TooFewItemsOrOom.TheVariants as with_len
 
--- what an error has in it whose items fail by want of memory
+-- the out of memory that such an error has in it
 abbrev pub Holds : BoxedSliceFromFallibleIterError ℕ → ℕ → Type 0
 Holds (fallible.IterError oom) size = size ≡ oom
 Holds (fallible.Oom oom) size = size ≡ oom
@@ -20,12 +20,12 @@ abbrev pub fallible_text : {E : Type 0} → BoxedSliceFromFallibleIterError E �
 fallible_text (fallible.IterError e) = codes "The fallible iterator produced an error"
 fallible_text (fallible.Oom oom) = codes "Failed to allocate space for the boxed slice"
 
--- this holds where there were too few items
+-- this holds if there were too few items
 abbrev pub OnTooFewItems : Type 0 → TooFewItemsOrOom → Type 0
 OnTooFewItems P (with_len.TooFewItems few) = P
 OnTooFewItems P (with_len.Oom oom) = ⊤
 
--- this holds of the item that was an error, where it was one
+-- this holds of the item that was an error, if there was one
 abbrev pub OnIterError : {E : Type 0} → (E → Type 0) → BoxedSliceFromFallibleIterError E → Type 0
 OnIterError P (fallible.IterError e) = P e
 OnIterError P (fallible.Oom oom) = ⊤

@@ -1,5 +1,5 @@
 //! Boxed slices of the items of an iterator.
-ghost use Rattle.std.specs.Prelude.{◌≡◌, ◌<◌, ◌∷◌, [], ◌++◌, List, Ok, Err, map, length, IfOk, IfErr};
+ghost use Rattle.std.specs.Prelude.{◌≡◌, ◌<◌, ◌∷◌, [], ◌++◌, List, Ok, Err, map, length, IsOk, IfOk, IfErr};
 ghost use Rattle.std.specs.Iterator.{Yields, Drains};
 ghost use Rattle.std.specs.Iterator.Runs.{SomeRun, WholeRun};
 ghost use Rattle.wic_collect.specs.Collected.{AreValues, EndWithError};
@@ -33,8 +33,8 @@ pub fn new_boxed_slice_from_iter<T: Drop, I: IntoIterator<Item = T>>(
 }
 
 /// Returns the slice of the first `len` items of `iter`, in order. No more items are read: a length of 0 asks nothing of
-/// `iter`. `TooFewItems` comes exactly if the items end before; the items that were read are then dropped. Out of memory
-/// comes before any item is read. There is one allocation.
+/// `iter`, and is never refused. `TooFewItems` comes exactly if the items end before; the items that were read are then
+/// dropped. Out of memory comes before any item is read. There is one allocation.
 ///
 /// A port of `wasmtime_internal_core::alloc::new_boxed_slice_from_iter_with_len`.
 pub fn new_boxed_slice_from_iter_with_len<T: Drop, I: IntoIterator<Item = T> + Drop>(
@@ -51,6 +51,7 @@ pub fn new_boxed_slice_from_iter_with_len<T: Drop, I: IntoIterator<Item = T> + D
         (λ it. SomeRun I.IntoIter.next_gives it (λ p. (s ≡ p.items) × (p.len ≡ len)))) }
     ensures too_few_run { IfErr result (OnTooFewItems (BecomesOne I.into_iter_gives iter
         (λ it. WholeRun I.IntoIter.next_gives it (λ p. p.len < len)))) }
+    ensures zero_never_refused { len ≡ 0 → IsOk result }
 {
     let builder = BoxedSliceBuilder::new(alloc, len)?;
     match boxed_slice_write_iter(builder, iter) {

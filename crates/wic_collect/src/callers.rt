@@ -121,12 +121,13 @@ pub fn filled_up(
     boxed_slice_write_iter(builder, numbers.iter().map(|x| *x % 10))
 }
 
-// A slice of no items needs nothing of its iterator.
+// A slice of no items needs nothing of its iterator, and is never refused.
 pub fn of_none<I: Iterator<Item = u32>>(
     alloc: Global,
     iter: I,
 ) -> Result<BoxedSlice<u32>, TooFewItemsOrOom>
     ensures length { IfOk result (λ s. length s ≡ 0) }
+    ensures never_refused { IsOk result }
 {
     new_boxed_slice_from_iter_with_len(alloc, 0, iter)
 }
@@ -153,7 +154,7 @@ pub fn all_digits(
 }
 
 // Why numbers are not collected.
-#[derive(Debug, Drop)]
+#[derive(Debug, Drop, PartialEq)]
 pub enum Refusal {
     Oom,
     Number(u32),

@@ -13,7 +13,8 @@ use wic_base::OutOfMemory;
 pub struct TooFewItems;
 
 impl fmt::Display for TooFewItems {
-    ghost output = { λ _. Some (codes "iterator yielded too few items to fully initialize boxed slice") };
+    ghost output = { λ _. Some
+        (codes "iterator yielded too few items to fully initialize boxed slice") };
 
     fn fmt<W: fmt::Write>(&self, f: &mut fmt::Formatter<W>) -> fmt::Result {
         f.write_str("iterator yielded too few items to fully initialize boxed slice")

@@ -1,5 +1,5 @@
 //! Collections made of the items of an iterator.
-ghost use Rattle.std.specs.Prelude.{⊤, ◌≡◌, ◌∷◌, [], ◌++◌, ◌⊎◌, List, Ok, Err, map, MatchResult};
+ghost use Rattle.std.specs.Prelude.{⊤, ◌≡◌, List, MatchResult};
 ghost use Rattle.std.specs.Iterator.{Yields, Drains};
 ghost use Rattle.std.specs.Iterator.Runs.{SomeRun, WholeRun};
 ghost use Rattle.wic_collect.specs.Collected.{AreValues, EndInError};

@@ -1,3 +1,4 @@
+use crate::callers::Refusal;
 use crate::*;
 use std::alloc::Global;
 use std::cmp::Ordering;
@@ -175,18 +176,6 @@ fn items_are_collected_in_order(rt: HostRuntime) -> Result<(), Fail> {
     numbers.try_extend(None)?;
     assert_eq!(rt; numbers.as_slice(), [1, 2, 3].as_slice());
     Ok(())
-}
-
-#[derive(Debug, Drop, PartialEq)]
-enum Refusal {
-    Oom,
-    Number(u32),
-}
-
-impl From<OutOfMemory> for Refusal {
-    fn from(_: OutOfMemory) -> Refusal {
-        Refusal::Oom
-    }
 }
 
 #[test]

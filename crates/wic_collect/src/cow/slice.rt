@@ -55,7 +55,8 @@ impl<'a, T: Ord> Ord for TryCowOf<&'a [T], TryVec<T>> {
 
     ghost total = { on_total cow_items (lists_total T.total) };
 
-    ghost matches_partial_cmp = { λ c d. lists_agrees T.matches_partial_cmp (cow_items c) (cow_items d) };
+    ghost matches_partial_cmp = { λ c d.
+        lists_agrees T.matches_partial_cmp (cow_items c) (cow_items d) };
 
     ghost matches_eq = { λ c d. lists_ties T.cmp T.matches_eq (cow_items c) (cow_items d) };
 
