@@ -17,9 +17,9 @@
 //! **When memory runs out.** Reads and writes don't allocate. [`words`] returns the status for out of memory, and nothing is written.
 #![tactic(auto)]
 
+mod command_line;
 mod device;
 mod flushed;
-mod words;
 
+pub use command_line::words;
 pub use device::{StdSink, StdSource};
-pub use words::words;
