@@ -12,7 +12,7 @@ pub enum Done {
 }
 
 /// Why a batch wasn't done.
-#[derive(Clone, Copy, Debug)]
+#[derive(Clone, Copy, Debug, PartialEq, Eq)]
 pub struct Refusal {
     /// Why the command wasn't done.
     pub cause: Cause,
@@ -21,11 +21,12 @@ pub struct Refusal {
     pub at: u64,
 }
 
-/// Why there is no more room.
+/// Why there is no more room. Refusals compare without the size in an `Oom`, which no contract states.
 #[derive(Clone, Copy, Debug)]
+#[derive_where(PartialEq, Eq)]
 pub enum ReserveRefusal {
     /// No table can have so many live ids.
     TooLarge,
     /// Out of memory.
-    Oom(OutOfMemory),
+    Oom(#[derive_where(skip(EqHashOrd))] OutOfMemory),
 }

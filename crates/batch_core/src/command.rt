@@ -41,8 +41,9 @@ pub struct Batch<T> {
     pub end: End,
 }
 
-/// Why a command isn't done.
+/// Why a command isn't done. Causes compare without the size in an `Oom`, which no contract states.
 #[derive(Clone, Copy, Debug)]
+#[derive_where(PartialEq, Eq)]
 pub enum Cause {
     /// The list is empty.
     Empty,
@@ -55,5 +56,5 @@ pub enum Cause {
     /// The number is above the greatest that the set can have.
     TooLarge,
     /// Out of memory, for the effect of the command or for its records.
-    Oom(OutOfMemory),
+    Oom(#[derive_where(skip(EqHashOrd))] OutOfMemory),
 }

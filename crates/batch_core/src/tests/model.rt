@@ -1,4 +1,5 @@
 //! The plain model: it keeps the old state whole, and takes it back where a batch is given up.
+use super::applied;
 use crate::{Batch, Command, Done, End, Refusal, Workspace};
 use std::alloc::{AllocError, Global};
 use std::collections::{BTreeMap, BTreeSet};
@@ -186,7 +187,7 @@ fn random_batches_do_what_the_plain_model_does(rt: HostRuntime) -> Result<(), Fa
         let end = batch.end;
         let mut next = model.copied()?;
         let bad = next.run(batch.commands.as_slice())?;
-        let answer = workspace.apply(batch);
+        let answer = applied(&mut workspace, batch);
         assert!(rt; is_right(&answer, bad, end));
         if matches!(&answer, Ok(Done::Committed)) {
             model = next;
