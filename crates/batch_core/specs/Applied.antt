@@ -9,16 +9,16 @@ use Rattle.batch_core.specs.Room.{StaysWithin}
 use Rattle.batch_core.specs.Workspace.{Workspace}
 use Rattle.batch_core.specs.declared.command.Cause.{Cause}
 use Rattle.batch_core.specs.declared.command.Cause.TheVariants.{Oom}
-use Rattle.batch_core.specs.declared.command.Command.{Command}
+use Rattle.batch_core.specs.declared.command.Batch.{Batch}
 use Rattle.batch_core.specs.declared.answer.Done.{Done}
 use Rattle.batch_core.specs.declared.answer.Done.TheVariants.{Committed, Aborted}
 use Rattle.batch_core.specs.declared.command.End.{End}
 use Rattle.batch_core.specs.declared.answer.Refusal.{Refusal}
 
 module _ {T : Type 0} where
-  -- the course of these commands from what the workspace holds
-  abbrev pub course_of : Workspace T → List (Command T) → Course T
-  course_of workspace commands = batch_course workspace.contents commands
+  -- the course of this batch from what the workspace holds
+  abbrev pub course_of : Workspace T → Batch T → Course T
+  course_of workspace batch = batch_course workspace.contents batch.commands.items
 
   -- memory ran out at this command: it and those before it are admitted, and one of them passes the room. At 0 it ran
   -- out before them, for more records than the room
