@@ -1,13 +1,13 @@
 -- Rooms, one larger than the other.
-use Rattle.std.proofs.Common.{◌≡◌, ℕ, ◌+◌, ◌≤◌, List, [], ◌∷◌, length, None, Some, Option, arith, sym, ap, ◌∙◌, subst}
-use Rattle.std.specs.Prelude.{IfNone}
+use Rattle.std.proofs.Common.{ℕ, ◌+◌, ◌≤◌, List, [], ◌∷◌, length, arith}
 use Rattle.batch_core.specs.State.{Contents}
-use Rattle.batch_core.specs.Command.{cause_of, effect_of}
-use Rattle.batch_core.specs.Room.{cut_by, Passes, StaysWithin, Fits}
+use Rattle.batch_core.specs.Command.{cause_of}
+use Rattle.batch_core.specs.Course.{Stand}
+use Rattle.batch_core.specs.Room.{cut_by, Passes, StaysWithin}
 use Rattle.batch_core.specs.Many.{FitsLargerRooms}
 use Rattle.batch_core.specs.declared.command.Command.{Command}
 use Rattle.batch_core.specs.declared.command.Command.TheVariants.{Push, Pop, Set, Alloc, Free, Put, Insert, Remove, Truncate}
-use Rattle.batch_core.proofs.RunFacts.{if_none_more}
+use Rattle.batch_core.proofs.CourseFacts.{if_none_more}
 
 module _ {X : Type 0} where
   -- what passes the larger room passes the smaller one
@@ -23,19 +23,19 @@ module _ {X : Type 0} where
   passes_smaller room larger count c (Remove number) more passes = passes
   passes_smaller room larger count c (Truncate kept) more passes = omega arith
 
-  within_larger : (room larger count : ℕ) (c : Contents X) (commands : List (Command X)) → room ≤ larger
-      → StaysWithin room count c commands → StaysWithin larger count c commands
-  within_larger room larger count c [] more within = tt
-  within_larger room larger count c (command ∷ commands) more within =
-      if_none_more (cause_of c command) _ _
+  within_larger : (room larger count : ℕ) (stands : List (Stand X)) → room ≤ larger → StaysWithin room count stands
+      → StaysWithin larger count stands
+  within_larger room larger count [] more within = tt
+  within_larger room larger count (stand ∷ stands) more within =
+      if_none_more (cause_of stand.contents stand.command) _ _
       (λ here. (
-        λ passes. here.0 (passes_smaller room larger count c command more passes),
-        within_larger room larger (count + cut_by c command) (effect_of c command) commands more here.1,
+        λ passes. here.0 (passes_smaller room larger count stand.contents stand.command more passes),
+        within_larger room larger (count + cut_by stand.contents stand.command) stands more here.1,
       )) within
 
-  -- a batch that fits a room fits each larger room
+  -- what fits a room fits each larger room
   pub fits_larger : FitsLargerRooms X
-  fits_larger room larger c commands more fits = record {
+  fits_larger room larger stands more fits = record {
     few = omega (arith, fits.few, more);
-    within = within_larger room larger (length commands) c commands more fits.within;
+    within = within_larger room larger (length stands) stands more fits.within;
   }

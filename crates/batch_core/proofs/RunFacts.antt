@@ -1,20 +1,24 @@
 -- A batch, command after command.
 use Rattle.std.proofs.Common.{◌≡◌, ℕ, zero, suc, ◌+◌, ◌-◌, ◌<◌, ◌≤◌, List, [], ◌∷◌, ◌++◌, length, take, Option, Some, None, refl, sym, ap}
-use Rattle.std.proofs.Common.{subst, ◌∙◌, arith, append_assoc, length-append, length-set, length-take}
-use Rattle.std.specs.Prelude.{IfNone, slice_get}
+use Rattle.std.proofs.Common.{subst, ◌∙◌, arith, length-append, length-set, length-take}
+use Rattle.std.specs.Prelude.{slice_get, IfErr}
+use Rattle.std.specs.declared.result.Result.{Result}
+use Rattle.std.specs.declared.result.Result.TheVariants.{Ok, Err}
 use Rattle.std.specs.Option.{option_map}
-use Rattle.std.proofs.Math.Seq.{take-append_seam}
 use Rattle.std.specs.FinMap.{get}
 use Rattle.wic_base.proofs.MapFacts.{len-insert_again, len-remove_key}
 use Rattle.batch_core.specs.State.{Contents, IsSound}
 use Rattle.batch_core.specs.Command.{made_of, last_value, cause_of, effect_of, records_of}
 use Rattle.batch_core.specs.Back.{Grows, IsWithin, undo_all}
-use Rattle.batch_core.specs.Batch.{BadCommand, Outcome, later_by, front_or_later, first_bad, contents_after, records_after, unless_bad}
-use Rattle.batch_core.specs.Batch.{ended}
+use Rattle.batch_core.specs.Course.{Stand, Course, led_by, batch_course}
+use Rattle.batch_core.specs.Batch.{BadCommand, Outcome, later_by, front_or_later, first_bad, unless_bad, ended}
 use Rattle.batch_core.specs.Batch.{outcome_of, committed, aborted, refused}
 use Rattle.batch_core.specs.Room.{cut_by, Passes, StaysWithin, Fits}
 use Rattle.batch_core.specs.Workspace.{Workspace, IsOom, IsReady, IsDone, HasRoom, IsCauseOf, KeepsWithin}
-use Rattle.batch_core.specs.Applied.{IsShort, RefusedFor}
+use Rattle.batch_core.specs.Applied.{IsShort, RefusedFor, IsApplied}
+use Rattle.batch_core.specs.declared.answer.Done.{Done}
+use Rattle.batch_core.specs.declared.answer.Done.TheVariants.{Committed, Aborted}
+use Rattle.batch_core.specs.declared.answer.Refusal.{Refusal}
 use Rattle.batch_core.specs.declared.command.Cause.{Cause}
 use Rattle.batch_core.specs.declared.command.Cause.TheVariants.{Empty, Position, Vacant, Full, TooLarge, Oom}
 use Rattle.batch_core.specs.declared.command.Command.{Command}
@@ -24,6 +28,8 @@ use Rattle.batch_core.specs.declared.command.End.TheVariants.{Commit, Abort}
 use Rattle.batch_core.specs.declared.record.Record.{Record}
 use Rattle.batch_core.specs.declared.record.Record.TheVariants.{Popped, Replaced, Freed, Put as Overwritten}
 use Rattle.batch_core.proofs.SetFacts.{below-insert, contains-remove_less}
+use Rattle.batch_core.proofs.CourseFacts.{cut_off, cut_off-more, first_bad-append, first_bad-more, within-more, within-take, take-front}
+use Rattle.batch_core.proofs.CourseFacts.{after_front, after_front-led}
 use Rattle.batch_core.proofs.BackFacts.{admitted, count_cuts, undo_all-append, undoing_goes_back}
 
 not_at_most : (a b : ℕ) → (¬ (a ≤ b)) → b < a
@@ -32,35 +38,11 @@ not_at_most a b stays = omega arith
 not_beyond : (a b : ℕ) → (¬ (a < b)) → b ≤ a
 not_beyond a b stays = omega arith
 
-later_none : (o : Option BadCommand) → option_map (later_by 0) o ≡ o
-later_none None = refl
-later_none (Some bad) =
-    let at : 0 + bad.at ≡ bad.at = omega arith in
-    ap (λ k. Some (record bad { at = k })) at
-
-later_more : (n m : ℕ) (o : Option BadCommand) → m ≡ n + 1
-    → option_map (later_by n) (option_map (later_by 1) o) ≡ option_map (later_by m) o
-later_more n m None next = refl
-later_more n m (Some bad) next =
-    let at : n + (1 + bad.at) ≡ m + bad.at = omega arith in
-    ap (λ k. Some (record bad { at = k })) at
-
-if_none : (o : Option Cause) (P : Type 0) → o ≡ None → IfNone o P → P
-if_none o P none here = subst (λ x. IfNone x P) none here
-
-if_none_back : (o : Option Cause) (P : Type 0) → o ≡ None → P → IfNone o P
-if_none_back o P none here = subst (λ x. IfNone x P) (sym none) here
-
 refused_here : (o : Option Cause) (cause : Cause) (n at : ℕ) (later : Option BadCommand) → o ≡ Some cause → at ≡ n + 1
     → option_map (later_by n) (front_or_later o later) ≡ Some (record { cause = cause; at = at })
 refused_here o cause n at later is next =
     ap (λ x. option_map (later_by n) (front_or_later x later)) is
     ∙ ap (λ k. Some (record { cause = cause; at = k })) (sym next)
-
--- if P gives Q, and P holds if there is no cause, Q holds if there is no cause
-pub if_none_more : (o : Option Cause) (P Q : Type 0) → (P → Q) → IfNone o P → IfNone o Q
-if_none_more None P Q more here = more here
-if_none_more (Some cause) P Q more here = tt
 
 module _ {X : Type 0} where
   count_made : (o : Option X) (made : X → Record X) → length (made_of o made) ≤ 1
@@ -156,19 +138,21 @@ module _ {X : Type 0} where
   count_stays s (Remove number) count ready stays room = omega arith
   count_stays s (Truncate kept) count ready stays room = omega (arith, not_beyond s.room _ stays, ready.records)
 
-  -- how far a batch has come: what it comes to is what is still to come comes to here
-  pub record IsAlong (total : ℕ) (first now : Workspace X) (done : List (Command X)) : Type 0 where
-    -- the first bad command of done and more is that of more from here, its number counted from the first of done
-    pub bad : (more : List (Command X))
-        → first_bad first.contents (done ++ more) ≡ option_map (later_by (length done)) (first_bad now.contents more)
-    -- the contents after done and more are those after more from here
-    pub contents : (more : List (Command X)) → contents_after first.contents (done ++ more) ≡ contents_after now.contents more
-    -- the records of done and more are those so far, and then those of more from here
-    pub records : (more : List (Command X)) → records_after first.contents (done ++ more) ≡ now.records ++ records_after now.contents more
-    -- where done and more stay within the room, so does more: by a count of at least records + total - done, at most the capacity
-    pub counted : (more : List (Command X)) → StaysWithin first.room total first.contents (done ++ more)
-        → (count : ℕ) × StaysWithin first.room count now.contents more × (length now.records + total ≤ count + length done)
-        × (count ≤ now.capacities.records)
+  -- how far a course has come from the first workspace: so many commands are done, which led to this workspace, and this course is
+  -- to come
+  pub record IsAlong (whole : Course X) (first now : Workspace X) (later : Course X) (at : ℕ) : Type 0 where
+    -- the commands that are done
+    pub front : List (Stand X)
+    -- the whole course is these and the records so far, and then the later course
+    pub course : whole ≡ after_front front now.records later
+    -- this is the number of commands that are done
+    pub count : at ≡ length front
+    -- none of them is bad
+    pub good : first_bad front ≡ None
+    -- there is at most a record for each, and one more for each value that they cut off
+    pub few : length now.records ≤ length front + cut_off front
+    -- if they stay within the room, all commands and the values cut off are at most the capacity for records
+    pub counted : StaysWithin first.room (length whole.stands) front → length whole.stands + cut_off front ≤ now.capacities.records
     -- undoing the records so far gives the contents at first
     pub back : undo_all now.records now.contents ≡ first.contents
     -- the room is as at first
@@ -176,54 +160,46 @@ module _ {X : Type 0} where
     -- no capacity is lower than at first
     pub grows : Grows first.capacities now.capacities
 
-  -- a batch has come no command far, where there are no records yet and the capacity is for total of them or more
-  pub along_start : (total : ℕ) (first : Workspace X) → first.records ≡ [] → total ≤ first.capacities.records
-      → IsAlong total first first []
-  along_start total first none room = record {
-    bad = λ more. sym (later_none (first_bad first.contents more));
-    contents = λ more. refl;
-    records = λ more. ap (λ l. l ++ records_after first.contents more) (sym none);
-    counted = λ more within. (total, within, omega (arith, ap length none), room);
+  -- a course begins, if there are no records yet and the capacity is for all its commands
+  pub along_start : (whole : Course X) (first : Workspace X) → first.records ≡ [] → length whole.stands ≤ first.capacities.records
+      → IsAlong whole first first whole 0
+  along_start whole first none room = record {
+    front = [];
+    course = ap (λ l. after_front [] l whole) (sym none);
+    count = refl;
+    good = refl;
+    few = omega (arith, ap length none);
+    counted = λ within. omega (arith, room);
     back = ap (λ l. undo_all l first.contents) none;
     room = refl;
     grows = record { list = omega arith; set = omega arith; table = omega arith; records = omega arith };
   }
 
-  again : (done : List (Command X)) (command : Command X) (more : List (Command X))
-      → (done ++ command ∷ []) ++ more ≡ done ++ command ∷ more
-  again done command more = append_assoc done (command ∷ []) more
-
   -- one command further
-  pub along_step : (total : ℕ) (first now next : Workspace X) (done : List (Command X)) (command : Command X)
-      → IsAlong total first now done → IsReady now → IsSound now.contents → cause_of now.contents command ≡ None → IsDone now command next
-      → next.room ≡ now.room → Grows now.capacities next.capacities → IsAlong total first next (done ++ command ∷ [])
-  along_step total first now next done command along ready sound none took room grows =
-      let n = length done in
-      let m : length (done ++ command ∷ []) ≡ n + 1 = length-append done (command ∷ []) in
+  pub along_step : (whole : Course X) (first now next : Workspace X) (command : Command X) (later : Contents X → Course X) (at : ℕ)
+      → IsAlong whole first now (led_by now.contents command (later (effect_of now.contents command))) at → IsReady now
+      → IsSound now.contents → cause_of now.contents command ≡ None → IsDone now command next → next.room ≡ now.room
+      → Grows now.capacities next.capacities → IsAlong whole first next (later next.contents) (at + 1)
+  along_step whole first now next command later at along ready sound none took room grows =
+      let stand : Stand X = record { contents = now.contents; command = command } in
+      let longer : length (along.front ++ stand ∷ []) ≡ length along.front + 1 = length-append along.front (stand ∷ []) in
+      let cut = cut_off-more along.front stand in
       let added = records_of now.contents command in
       let count_added : length next.records ≡ length now.records + length added = ap length took.records
-      ∙ length-append now.records added in
-      let few = count_records now.contents command in record {
-        bad = λ more. ap (first_bad first.contents) (again done command more) ∙ along.bad (command ∷ more)
-            ∙ ap (λ o. option_map (later_by n) (front_or_later o (first_bad (effect_of now.contents command) more))) none
-            ∙ ap (λ c. option_map (later_by n) (option_map (later_by 1) (first_bad c more))) (sym took.effect)
-            ∙ later_more n (length (done ++ command ∷ [])) (first_bad next.contents more) m;
-        contents = λ more. ap (contents_after first.contents) (again done command more) ∙ along.contents (command ∷ more)
-            ∙ ap (λ c. contents_after c more) (sym took.effect);
-        records = λ more. ap (records_after first.contents) (again done command more) ∙ along.records (command ∷ more)
-            ∙ sym (append_assoc now.records added (records_after (effect_of now.contents command) more))
-            ∙ (λ i. sym took.records i ++ records_after (sym took.effect i) more);
-        counted = λ more within.
-            let so = along.counted (command ∷ more)
-            (subst (StaysWithin first.room total first.contents) (again done command more) within) in
-            let here = if_none (cause_of now.contents command) _ none so.1 in
-            let stays = subst (λ r. ¬ Passes r so.0 now.contents command) (sym along.room) here.0 in
-            let enough = count_stays now command so.0 ready stays so.3 in (
-              so.0 + cut_by now.contents command,
-              subst (λ c. StaysWithin first.room (so.0 + cut_by now.contents command) c more) (sym took.effect) here.1,
-              omega (arith, so.2, count_added, few, m),
-              omega (arith, enough, grows.records),
-            );
+      ∙ length-append now.records added in record {
+        front = along.front ++ stand ∷ [];
+        course = along.course
+            ∙ after_front-led along.front now.records now.contents command (later (effect_of now.contents command))
+            ∙ (λ i. after_front (along.front ++ stand ∷ []) (sym took.records i) (later (sym took.effect i)));
+        count = omega (arith, along.count, longer);
+        good = first_bad-more along.front stand along.good none;
+        few = omega (arith, along.few, count_added, count_records now.contents command, longer, cut);
+        counted = λ within.
+            let parts = within-more first.room (length whole.stands) along.front stand along.good none within in
+            let count = length whole.stands + cut_off along.front in
+            let stays = subst (λ r. ¬ Passes r count now.contents command) (sym along.room) parts.1 in
+            let enough = count_stays now command count ready stays (along.counted parts.0) in
+            omega (arith, enough, grows.records, cut);
         back = ap (λ l. undo_all l next.contents) took.records ∙ undo_all-append now.records added next.contents
             ∙ ap (undo_all now.records) (ap (undo_all added) took.effect ∙ undoing_goes_back now.contents command sound none)
             ∙ along.back;
@@ -236,118 +212,128 @@ module _ {X : Type 0} where
         };
       }
 
-  bad_here : (total : ℕ) (first now : Workspace X) (done : List (Command X)) (command : Command X) (rest all : List (Command X))
-      (ending : End) (at : ℕ) (cause : Cause) → IsAlong total first now done → all ≡ done ++ command ∷ rest → at ≡ length done + 1
-      → cause_of now.contents command ≡ Some cause
-      → outcome_of first.contents all ending ≡ (refused (record { cause = cause; at = at }), first.contents)
-  bad_here total first now done command rest all ending at cause along split next is =
-      let bad : first_bad first.contents all ≡ Some (record { cause = cause; at = at }) =
-      ap (first_bad first.contents) split ∙ along.bad (command ∷ rest)
-      ∙ refused_here (cause_of now.contents command) cause (length done) at (first_bad (effect_of now.contents command) rest) is next in
-      ap (λ o. unless_bad o first.contents (ended first.contents all ending)) bad
+  -- if nothing is to come, no command was bad
+  pub along_end : (whole : Course X) (first now : Workspace X) (at : ℕ) → IsAlong whole first now (batch_course now.contents []) at
+      → first_bad whole.stands ≡ None
+  along_end whole first now at along =
+      ap (λ course. first_bad course.stands) along.course ∙ first_bad-append along.front [] along.good
 
-  take_done : (done : List (Command X)) (command : Command X) (rest all : List (Command X)) (n : ℕ) → all ≡ done ++ command ∷ rest
-      → n ≡ length done + 1 → take n all ≡ done ++ command ∷ []
-  take_done done command rest all n split next =
-      ap (take n) (split ∙ sym (again done command rest))
-      ∙ ap (λ k. take k ((done ++ command ∷ []) ++ rest)) (next ∙ sym (length-append done (command ∷ [])))
-      ∙ take-append_seam (done ++ command ∷ []) rest
+  bad_here : (whole : Course X) (first now : Workspace X) (command : Command X) (later : Course X) (ending : End) (at : ℕ) (cause : Cause)
+      → IsAlong whole first now (led_by now.contents command later) at → cause_of now.contents command ≡ Some cause
+      → outcome_of first.contents whole ending ≡ (refused (record { cause = cause; at = at + 1 }), first.contents)
+  bad_here whole first now command later ending at cause along is =
+      let bad : first_bad whole.stands ≡ Some (record { cause = cause; at = at + 1 }) =
+      ap (λ course. first_bad course.stands) along.course
+      ∙ first_bad-append along.front (record { contents = now.contents; command = command } ∷ later.stands) along.good
+      ∙ refused_here (cause_of now.contents command) cause (length along.front) (at + 1) (first_bad later.stands) is
+      (omega (arith, along.count)) in
+      ap (λ o. unless_bad o first.contents (ended first.contents whole ending)) bad
 
-  short_here : (total : ℕ) (first now : Workspace X) (done : List (Command X)) (command : Command X) (rest all : List (Command X))
-      → IsAlong total first now done → all ≡ done ++ command ∷ rest → total ≡ length all → IsReady now
-      → IsWithin now.capacities now.contents → cause_of now.contents command ≡ None → (¬ HasRoom now command)
-      → IsShort first.room first.contents all (suc (length done))
-  short_here total first now done command rest all along split count ready within none no_room =
-      let long : length all ≡ length done + length (command ∷ rest) = ap length split ∙ length-append done (command ∷ rest) in
-      let front = take_done done command rest all (suc (length done)) split (omega arith) in
-      let not_bad : first_bad first.contents (done ++ command ∷ []) ≡ None =
-      along.bad (command ∷ []) ∙ ap (λ o. option_map (later_by (length done)) (front_or_later o None)) none in (
-        omega (arith, long),
-        ap (first_bad first.contents) front ∙ not_bad,
+  short_here : (whole : Course X) (first now : Workspace X) (command : Command X) (later : Course X) (at : ℕ)
+      → IsAlong whole first now (led_by now.contents command later) at → IsReady now → IsWithin now.capacities now.contents
+      → cause_of now.contents command ≡ None → (¬ HasRoom now command) → IsShort first.room whole.stands (suc at)
+  short_here whole first now command later at along ready within none no_room =
+      let stand : Stand X = record { contents = now.contents; command = command } in
+      let stands = ap (λ course. course.stands) along.course in
+      let long : length whole.stands ≡ length along.front + length (stand ∷ later.stands) =
+      ap length stands ∙ length-append along.front (stand ∷ later.stands) in
+      let front : take (suc at) whole.stands ≡ along.front ++ stand ∷ [] =
+      ap (take (suc at)) stands ∙ take-front along.front stand later.stands (suc at) (omega (arith, along.count)) in (
+        omega (arith, long, along.count),
+        ap first_bad front ∙ first_bad-more along.front stand along.good none,
         λ stays_within.
-            let so = along.counted (command ∷ []) (subst (λ t. StaysWithin first.room t first.contents (done ++ command ∷ [])) (sym count)
-            (subst (StaysWithin first.room (length all) first.contents) front stays_within)) in
-            let here = if_none (cause_of now.contents command) _ none so.1 in
-            let stays = subst (λ r. ¬ Passes r so.0 now.contents command) (sym along.room) here.0 in
-            let few : length now.records + 1 ≤ so.0 = omega (arith, so.2, count, long) in
-            no_room (has_room now command so.0 ready within none stays few so.3),
+            let count = length whole.stands + cut_off along.front in
+            let parts = within-more first.room (length whole.stands) along.front stand along.good none
+            (subst (StaysWithin first.room (length whole.stands)) front stays_within) in
+            let stays = subst (λ r. ¬ Passes r count now.contents command) (sym along.room) parts.1 in
+            let few : length now.records + 1 ≤ count = omega (arith, along.few, long) in
+            no_room (has_room now command count ready within none stays few (along.counted parts.0)),
       )
 
   -- the command that isn't done refuses the batch
-  pub along_refused : (total : ℕ) (first now : Workspace X) (done : List (Command X)) (command : Command X) (rest all : List (Command X))
-      (ending : End) (at : ℕ) (cause : Cause) → IsAlong total first now done → all ≡ done ++ command ∷ rest → total ≡ length all
-      → at ≡ length done + 1 → IsReady now → IsWithin now.capacities now.contents → IsCauseOf now command cause
-      → RefusedFor first.room first.contents all ending cause at
-  along_refused total first now done command rest all ending at Empty along split count next ready within is = bad_here total first now
-      done command rest all ending at Empty along split next is
-  along_refused total first now done command rest all ending at Position along split count next ready within is = bad_here total first now
-      done command rest all ending at Position along split next is
-  along_refused total first now done command rest all ending at Vacant along split count next ready within is = bad_here total first now
-      done command rest all ending at Vacant along split next is
-  along_refused total first now done command rest all ending at Full along split count next ready within is = bad_here total first now
-      done command rest all ending at Full along split next is
-  along_refused total first now done command rest all ending at TooLarge along split count next ready within is = bad_here total first now
-      done command rest all ending at TooLarge along split next is
-  along_refused total first now done command rest all ending at (Oom size) along split count next ready within is =
-      let later : at ≡ suc (length done) = omega arith in
-      subst (IsShort first.room first.contents all) (sym later)
-      (short_here total first now done command rest all along split count ready within is.0 is.1)
+  pub along_refused : (whole : Course X) (first now : Workspace X) (command : Command X) (later : Course X) (ending : End) (at : ℕ)
+      (cause : Cause) → IsAlong whole first now (led_by now.contents command later) at → IsReady now
+      → IsWithin now.capacities now.contents → IsCauseOf now command cause
+      → RefusedFor first.room first.contents whole ending cause (at + 1)
+  along_refused whole first now command later ending at Empty along ready within is =
+      bad_here whole first now command later ending at Empty along is
+  along_refused whole first now command later ending at Position along ready within is =
+      bad_here whole first now command later ending at Position along is
+  along_refused whole first now command later ending at Vacant along ready within is =
+      bad_here whole first now command later ending at Vacant along is
+  along_refused whole first now command later ending at Full along ready within is =
+      bad_here whole first now command later ending at Full along is
+  along_refused whole first now command later ending at TooLarge along ready within is =
+      bad_here whole first now command later ending at TooLarge along is
+  along_refused whole first now command later ending at (Oom size) along ready within is =
+      let next : suc at ≡ at + 1 = omega arith in
+      subst (IsShort first.room whole.stands) next (short_here whole first now command later at along ready within is.0 is.1)
 
-  within_take : (room count : ℕ) (c : Contents X) (commands : List (Command X)) (k : ℕ) → StaysWithin room count c commands
-      → StaysWithin room count c (take k commands)
-  within_take room count c commands zero within = tt
-  within_take room count c [] (suc k) within = tt
-  within_take room count c (command ∷ commands) (suc k) within =
-      if_none_more (cause_of c command) _ _
-      (λ here. (here.0, within_take room (count + cut_by c command) (effect_of c command) commands k here.1)) within
+  short_beyond : (room : ℕ) (stands : List (Stand X)) (at : ℕ) → IsShort room stands at → ¬ Fits room stands
+  short_beyond room stands zero short = λ fits. omega (arith, short, fits.few)
+  short_beyond room stands (suc before) short =
+      λ fits. short.2 (within-take room (length stands) stands (suc before) fits.within)
 
-  short_beyond : (room : ℕ) (c : Contents X) (commands : List (Command X)) (at : ℕ) → IsShort room c commands at → ¬ Fits room c commands
-  short_beyond room c commands zero short = λ fits. omega (arith, short, fits.few)
-  short_beyond room c commands (suc before) short =
-      λ fits. short.2 (within_take room (length commands) c commands (suc before) fits.within)
+  -- a course from contents that fits the room fits it if room and contents are the same
+  pub fits_kept : {room other : ℕ} {c d : Contents X} (course : Contents X → Course X) → room ≡ other → c ≡ d
+      → Fits other (course d).stands → Fits room (course c).stands
+  fits_kept {room} {other} {c} {d} course same_room same fits =
+      subst (λ r. Fits r (course c).stands) (sym same_room) (subst (λ k. Fits other (course k).stands) (sym same) fits)
 
-  -- a batch that fits the room fits it where room and contents are the same
-  pub fits_kept : {room other : ℕ} {c d : Contents X} {commands : List (Command X)} → room ≡ other → c ≡ d → Fits other d commands
-      → Fits room c commands
-  fits_kept {room} {other} {c} {d} {commands} same_room same fits =
-      subst (λ r. Fits r c commands) (sym same_room) (subst (λ k. Fits other k commands) (sym same) fits)
-
-  -- a batch that is refused is refused so for the same room and contents
-  pub refused_kept : (room other : ℕ) (c d : Contents X) (commands : List (Command X)) (ending : End) (cause : Cause) (at : ℕ)
-      → room ≡ other → c ≡ d → RefusedFor room c commands ending cause at → RefusedFor other d commands ending cause at
-  refused_kept room other c d commands ending cause at same_room same was =
-      subst (λ r. RefusedFor r d commands ending cause at) same_room
-      (subst (λ k. RefusedFor room k commands ending cause at) same was)
+  -- a course from contents that is refused is refused so for the same room and contents
+  pub refused_kept : (room other : ℕ) (c d : Contents X) (course : Contents X → Course X) (ending : End) (cause : Cause) (at : ℕ)
+      → room ≡ other → c ≡ d → RefusedFor room c (course c) ending cause at → RefusedFor other d (course d) ending cause at
+  refused_kept room other c d course ending cause at same_room same was =
+      subst (λ r. RefusedFor r d (course d) ending cause at) same_room
+      (subst (λ k. RefusedFor room k (course k) ending cause at) same was)
 
   -- a batch that fits the room isn't refused for memory
-  pub never_refused : (room : ℕ) (c : Contents X) (commands : List (Command X)) (ending : End) (cause : Cause) (at : ℕ)
-      → RefusedFor room c commands ending cause at → Fits room c commands → ¬ IsOom cause
-  never_refused room c commands ending Empty at is fits = λ oom. oom
-  never_refused room c commands ending Position at is fits = λ oom. oom
-  never_refused room c commands ending Vacant at is fits = λ oom. oom
-  never_refused room c commands ending Full at is fits = λ oom. oom
-  never_refused room c commands ending TooLarge at is fits = λ oom. oom
-  never_refused room c commands ending (Oom size) at is fits = absurd (short_beyond room c commands at is fits)
+  pub never_refused : (room : ℕ) (c : Contents X) (course : Course X) (ending : End) (cause : Cause) (at : ℕ)
+      → RefusedFor room c course ending cause at → Fits room course.stands → ¬ IsOom cause
+  never_refused room c course ending Empty at is fits = λ oom. oom
+  never_refused room c course ending Position at is fits = λ oom. oom
+  never_refused room c course ending Vacant at is fits = λ oom. oom
+  never_refused room c course ending Full at is fits = λ oom. oom
+  never_refused room c course ending TooLarge at is fits = λ oom. oom
+  never_refused room c course ending (Oom size) at is fits = absurd (short_beyond room course.stands at is fits)
 
-  not_refused : (c : Contents X) (commands : List (Command X)) (ending : End) (bad : BadCommand)
-      → ended c commands ending ≡ (refused bad, c) → ⊥
-  not_refused c commands Commit bad same = let differ : committed (records_after c commands) ≡ refused bad = ap (λ p. p.0) same in cc
-  not_refused c commands Abort bad same = let differ : ◌≡◌ {A = Outcome X} aborted (refused bad) = ap (λ p. p.0) same in cc
+  refused_contents : (old : Workspace X) (course : Course X) (ending : End) (cause : Cause) (at : ℕ)
+      → RefusedFor old.room old.contents course ending cause at → (¬ IsOom cause)
+      → old.contents ≡ (outcome_of old.contents course ending).1
+  refused_contents old course ending Empty at is found = sym (ap (λ p. p.1) is)
+  refused_contents old course ending Position at is found = sym (ap (λ p. p.1) is)
+  refused_contents old course ending Vacant at is found = sym (ap (λ p. p.1) is)
+  refused_contents old course ending Full at is found = sym (ap (λ p. p.1) is)
+  refused_contents old course ending TooLarge at is found = sym (ap (λ p. p.1) is)
+  refused_contents old course ending (Oom size) at is found = absurd (found tt)
 
-  bad_refused : (c : Contents X) (commands : List (Command X)) (ending : End) (bad : BadCommand)
-      → outcome_of c commands ending ≡ (refused bad, c) → first_bad c commands ≡ None → ⊥
-  bad_refused c commands ending bad is none =
-      not_refused c commands ending bad (sym (ap (λ o. unless_bad o c (ended c commands ending)) none) ∙ is)
+  -- a batch that isn't refused for memory leaves what its outcome says
+  pub applied_contents : (old new : Workspace X) (course : Course X) (ending : End) (result : Result Done Refusal)
+      → IsApplied old course ending result new → IfErr result (λ refusal. ¬ IsOom refusal.cause)
+      → new.contents ≡ (outcome_of old.contents course ending).1
+  applied_contents old new course ending (Ok Committed) applied found = sym (ap (λ p. p.1) applied)
+  applied_contents old new course ending (Ok Aborted) applied found = sym (ap (λ p. p.1) applied.0)
+  applied_contents old new course ending (Err refusal) applied found =
+      applied.0 ∙ refused_contents old course ending refusal.cause refusal.at applied.2 found
+
+  not_refused : (c : Contents X) (course : Course X) (ending : End) (bad : BadCommand) → ended c course ending ≡ (refused bad, c) → ⊥
+  not_refused c course Commit bad same = let differ : committed course.records ≡ refused bad = ap (λ p. p.0) same in cc
+  not_refused c course Abort bad same = let differ : ◌≡◌ {A = Outcome X} aborted (refused bad) = ap (λ p. p.0) same in cc
+
+  bad_refused : (c : Contents X) (course : Course X) (ending : End) (bad : BadCommand)
+      → outcome_of c course ending ≡ (refused bad, c) → first_bad course.stands ≡ None → ⊥
+  bad_refused c course ending bad is none =
+      not_refused c course ending bad (sym (ap (λ o. unless_bad o c (ended c course ending)) none) ∙ is)
 
   -- a batch that fits the room and has no bad command isn't refused
-  pub never_refused_at_all : (room : ℕ) (c : Contents X) (commands : List (Command X)) (ending : End) (cause : Cause) (at : ℕ)
-      → RefusedFor room c commands ending cause at → Fits room c commands → first_bad c commands ≡ None → ⊥
-  never_refused_at_all room c commands ending Empty at is fits none = bad_refused c commands ending _ is none
-  never_refused_at_all room c commands ending Position at is fits none = bad_refused c commands ending _ is none
-  never_refused_at_all room c commands ending Vacant at is fits none = bad_refused c commands ending _ is none
-  never_refused_at_all room c commands ending Full at is fits none = bad_refused c commands ending _ is none
-  never_refused_at_all room c commands ending TooLarge at is fits none = bad_refused c commands ending _ is none
-  never_refused_at_all room c commands ending (Oom size) at is fits none = short_beyond room c commands at is fits
+  pub never_refused_at_all : (room : ℕ) (c : Contents X) (course : Course X) (ending : End) (cause : Cause) (at : ℕ)
+      → RefusedFor room c course ending cause at → Fits room course.stands → first_bad course.stands ≡ None → ⊥
+  never_refused_at_all room c course ending Empty at is fits none = bad_refused c course ending _ is none
+  never_refused_at_all room c course ending Position at is fits none = bad_refused c course ending _ is none
+  never_refused_at_all room c course ending Vacant at is fits none = bad_refused c course ending _ is none
+  never_refused_at_all room c course ending Full at is fits none = bad_refused c course ending _ is none
+  never_refused_at_all room c course ending TooLarge at is fits none = bad_refused c course ending _ is none
+  never_refused_at_all room c course ending (Oom size) at is fits none = short_beyond room course.stands at is fits
 
   -- nor is a step of an admitted command that keeps within the room
   pub step_never_refused : (s : Workspace X) (command : Command X) (cause : Cause) → IsReady s → IsWithin s.capacities s.contents

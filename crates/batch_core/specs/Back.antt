@@ -1,5 +1,5 @@
 -- Records taken back, the newest first.
-use Rattle.std.specs.Prelude.{⊤, ◌≡◌, ℕ, ◌<◌, ◌≤◌, true, false, List, [], ◌∷◌, ◌++◌, IsTrue, length, drop, slice_set}
+use Rattle.std.specs.Prelude.{⊤, ℕ, ◌<◌, ◌≤◌, true, false, List, [], ◌∷◌, ◌++◌, IsTrue, length, drop, slice_set}
 use Rattle.std.specs.FinMap.{insert, remove, contains_key, len}
 use Rattle.std.specs.FinSet.{insert as with_member, remove as without_member}
 use Rattle.wic_slab.specs.Order.{next_id, take_next, give_back}

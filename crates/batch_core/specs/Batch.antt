@@ -1,10 +1,10 @@
 -- What a batch comes to: it takes effect whole, or not at all.
-use Rattle.std.specs.Prelude.{ℕ, ◌+◌, List, [], ◌∷◌, ◌++◌, Option, Some, None}
+use Rattle.std.specs.Prelude.{ℕ, ◌+◌, List, [], ◌∷◌, Option, Some, None}
 use Rattle.std.specs.Option.{option_map}
 use Rattle.batch_core.specs.State.{Contents}
-use Rattle.batch_core.specs.Command.{cause_of, effect_of, records_of}
+use Rattle.batch_core.specs.Command.{cause_of}
+use Rattle.batch_core.specs.Course.{Stand, Course}
 use Rattle.batch_core.specs.declared.command.Cause.{Cause}
-use Rattle.batch_core.specs.declared.command.Command.{Command}
 use Rattle.batch_core.specs.declared.record.Record.{Record}
 use Rattle.batch_core.specs.declared.command.End.{End}
 use Rattle.batch_core.specs.declared.command.End.TheVariants.{Commit, Abort}
@@ -31,31 +31,20 @@ front_or_later None later = option_map (later_by 1) later
 
 module _ {T : Type 0} where
   -- the first bad command, if there is one: those before it are admitted where they stand, and it isn't
-  abbrev pub first_bad : Contents T → List (Command T) → Option BadCommand
-  first_bad contents [] = None
-  first_bad contents (command ∷ commands) =
-      front_or_later (cause_of contents command) (first_bad (effect_of contents command) commands)
+  abbrev pub first_bad : List (Stand T) → Option BadCommand
+  first_bad [] = None
+  first_bad (stand ∷ stands) = front_or_later (cause_of stand.contents stand.command) (first_bad stands)
 
-  -- the contents after all commands, each of which is admitted
-  abbrev pub contents_after : Contents T → List (Command T) → Contents T
-  contents_after contents [] = contents
-  contents_after contents (command ∷ commands) = contents_after (effect_of contents command) commands
-
-  -- the records of all commands in order, each of which is admitted
-  abbrev pub records_after : Contents T → List (Command T) → List (Record T)
-  records_after contents [] = []
-  records_after contents (command ∷ commands) = records_of contents command ++ records_after (effect_of contents command) commands
-
-  -- the outcome and the contents after a batch with no bad command
-  abbrev pub ended : Contents T → List (Command T) → End → Outcome T × Contents T
-  ended contents commands Commit = (committed (records_after contents commands), contents_after contents commands)
-  ended contents commands Abort = (aborted, contents)
+  -- the outcome and the contents after a course with no bad command
+  abbrev pub ended : Contents T → Course T → End → Outcome T × Contents T
+  ended contents course Commit = (committed course.records, course.after)
+  ended contents course Abort = (aborted, contents)
 
   -- a bad command refuses the whole batch, whatever its end, and the old contents stay
   abbrev pub unless_bad : Option BadCommand → Contents T → Outcome T × Contents T → Outcome T × Contents T
   unless_bad (Some bad) contents otherwise = (refused bad, contents)
   unless_bad None contents otherwise = otherwise
 
-  -- the outcome of a batch, and the contents after it
-  abbrev pub outcome_of : Contents T → List (Command T) → End → Outcome T × Contents T
-  outcome_of contents commands ending = unless_bad (first_bad contents commands) contents (ended contents commands ending)
+  -- the outcome of a batch of this course, and the contents after it
+  abbrev pub outcome_of : Contents T → Course T → End → Outcome T × Contents T
+  outcome_of contents course ending = unless_bad (first_bad course.stands) contents (ended contents course ending)

@@ -3,6 +3,7 @@ use Rattle.std.specs.Prelude.{⊤, ℕ, ◌+◌, ◌-◌, ◌<◌, ◌≤◌, Li
 use Rattle.std.specs.FinMap.{len}
 use Rattle.batch_core.specs.State.{Contents}
 use Rattle.batch_core.specs.Command.{cause_of, effect_of}
+use Rattle.batch_core.specs.Course.{Stand}
 use Rattle.batch_core.specs.declared.command.Command.{Command}
 use Rattle.batch_core.specs.declared.command.Command.TheVariants.{Push, Alloc, Insert, Truncate}
 
@@ -22,12 +23,13 @@ module _ {T : Type 0} where
   Passes room count contents command = ⊥
 
   -- no command up to the first bad one passes the room where it stands
-  abbrev pub StaysWithin : ℕ → ℕ → Contents T → List (Command T) → Type 0
-  StaysWithin room count contents [] = ⊤
-  StaysWithin room count contents (command ∷ commands) = IfNone (cause_of contents command)
-      ((¬ Passes room count contents command) × StaysWithin room (count + cut_by contents command) (effect_of contents command) commands)
+  abbrev pub StaysWithin : ℕ → ℕ → List (Stand T) → Type 0
+  StaysWithin room count [] = ⊤
+  StaysWithin room count (stand ∷ stands) = IfNone (cause_of stand.contents stand.command)
+      ((¬ Passes room count stand.contents stand.command)
+      × StaysWithin room (count + cut_by stand.contents stand.command) stands)
 
-  -- the batch fits the room: it has no more commands than the room, and stays within it
-  pub record Fits (room : ℕ) (contents : Contents T) (commands : List (Command T)) : Type 0 where
-    pub few : length commands ≤ room
-    pub within : StaysWithin room (length commands) contents commands
+  -- the course of these commands fits the room: they are no more than the room, and stay within it
+  pub record Fits (room : ℕ) (stands : List (Stand T)) : Type 0 where
+    pub few : length stands ≤ room
+    pub within : StaysWithin room (length stands) stands

@@ -5,6 +5,7 @@ use Rattle.std.proofs.lemmas.Bool.Decides.{nat_tests}
 use Rattle.wic_slab.specs.Order.{max_capacity}
 use Rattle.std.specs.List.{AllByRecursion}
 use Rattle.batch_core.specs.State.{State, empty_state}
+use Rattle.batch_core.specs.Course.{batch_course}
 use Rattle.batch_core.specs.Room.{Fits}
 use Rattle.batch_script.specs.Machine.{PlainItem, reserve, show, batch, Reply, reserved, reserve_too_large, no_memory}
 use Rattle.batch_script.specs.Machine.{plain_step, AsksForMore, IsBeyond, ItemStep, Run, plain_replies, IsPlain}
@@ -36,7 +37,8 @@ not_beyond : (room : ℕ) (state : State ℕ) (item : PlainItem) → state.room 
     → ¬ IsBeyond state item
 not_beyond room state (reserve number) is least fits beyond = least (subst (λ r. AsksForMore r number) is beyond)
 not_beyond room state show is least fits beyond = beyond
-not_beyond room state (batch commands ending) is least fits beyond = beyond (subst (λ r. Fits r state.contents commands) (sym is) fits)
+not_beyond room state (batch commands ending) is least fits beyond =
+    beyond (subst (λ r. Fits r (batch_course state.contents commands).stands) (sym is) fits)
 
 reserve_answers : (within : Bool) (state : State ℕ) (number : ℕ) → (reserve_by within state number).0 ≢ no_memory
 reserve_answers true state number = λ same. cc

@@ -5,6 +5,7 @@ use Rattle.std.specs.List.{flat_map}
 use Rattle.std.proofs.lemmas.List.{append-nil}
 use Rattle.std.proofs.lemmas.List.Concat.{flat_map-append}
 use Rattle.batch_core.specs.State.{empty_state}
+use Rattle.batch_core.specs.Course.{batch_course}
 use Rattle.batch_core.specs.Batch.{Outcome, committed, refused, outcome_of}
 use Rattle.batch_core.specs.Applied.{RefusedFor}
 use Rattle.batch_core.specs.Workspace.{Workspace}
@@ -35,14 +36,14 @@ text-committed records = sym (flat_map-append _ (flat_map record_lines records) 
 
 module _ (old new : Workspace ℕ) (commands : List (Command ℕ)) (ending : End) (same_room : new.room ≡ old.room) where
   -- a batch came to its outcome, and the room stays
-  pub batch_step : (outcome : Outcome ℕ) → outcome_of old.contents commands ending ≡ (outcome, new.contents)
+  pub batch_step : (outcome : Outcome ℕ) → outcome_of old.contents (batch_course old.contents commands) ending ≡ (outcome, new.contents)
       → ItemStep (state_of old) (batch commands ending) (answered outcome) (state_of new)
   batch_step outcome came =
       inl (rw came (λ t. (answered outcome, record { contents = new.contents; room = same_room t })))
 
   -- a batch was refused for a cause, which is no want of memory
   pub refused_step : (cause : Cause) (at : ℕ) (why : BatchKind) → kind_of_cause cause ≡ Some why
-      → new.contents ≡ old.contents → RefusedFor old.room old.contents commands ending cause at
+      → new.contents ≡ old.contents → RefusedFor old.room old.contents (batch_course old.contents commands) ending cause at
       → ItemStep (state_of old) (batch commands ending) (answered (refused (record { cause = cause; at = at }))) (state_of new)
   refused_step (Oom size) at why is same came = let none : None ≡ Some why = is in cc
   refused_step Empty at why is same came = batch_step _ (rw same came)

@@ -7,6 +7,7 @@ use Rattle.wic_slab.specs.Order.{max_capacity}
 use Rattle.batch_core.specs.State.{State, empty_state}
 use Rattle.batch_core.specs.declared.record.Record.TheVariants.{Pushed, Popped, Replaced, Allocated, Freed, Put as Overwritten}
 use Rattle.batch_core.specs.declared.record.Record.TheVariants.{Inserted, Removed, Cut, Truncated}
+use Rattle.batch_core.specs.Course.{batch_course}
 use Rattle.batch_core.specs.Batch.{Outcome, committed, aborted, refused, outcome_of}
 use Rattle.batch_script.specs.Machine.{PlainItem, reserve, show, batch, Reply, no_memory, plain_step, IsBeyond, ItemStep, Run}
 use Rattle.batch_script.specs.Reply.{reply_lines, outcome_lines, text_of_lines, text_of}
@@ -54,7 +55,8 @@ plain_tells : (state : State ℕ) (item : PlainItem) (rest : List ℕ) → IsBey
     → tells_no_memory (reply_text (plain_step state item).0 ++ rest) ≡ false
 plain_tells state (reserve number) rest beyond = reserve_tells (nat_le number max_capacity) state number rest
 plain_tells state show rest beyond = absurd beyond
-plain_tells state (batch commands ending) rest beyond = batch_tells (outcome_of state.contents commands ending).0 rest
+plain_tells state (batch commands ending) rest beyond =
+    batch_tells (outcome_of state.contents (batch_course state.contents commands) ending).0 rest
 
 -- the text of a plain reply and that of want of memory are apart, whatever follows them
 texts_apart : (state : State ℕ) (item : PlainItem) (rest more : List ℕ) → IsBeyond state item

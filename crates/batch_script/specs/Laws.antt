@@ -3,6 +3,7 @@ use Rattle.std.specs.Prelude.{⊤, ◌≡◌, ℕ, ◌≤◌, List, [], ◌∷�
 use Rattle.std.specs.List.{AllByRecursion}
 use Rattle.wic_slab.specs.Order.{max_capacity}
 use Rattle.batch_core.specs.State.{State, empty_state}
+use Rattle.batch_core.specs.Course.{batch_course}
 use Rattle.batch_core.specs.Room.{Fits}
 use Rattle.batch_script.specs.Machine.{PlainItem, reserve, batch, Reply, reserved, plain_step, plain_replies, AsksForMore, Run, IsPlain}
 use Rattle.batch_script.specs.Grammar.{IsValidItem, all_lines}
@@ -25,7 +26,7 @@ AsksForNoMore room item = ⊤
 
 -- the item, where it is a batch, fits the room in this state
 abbrev pub FitsIfBatch : ℕ → State ℕ → PlainItem → Type 0
-FitsIfBatch room state (batch commands ending) = Fits room state.contents commands
+FitsIfBatch room state (batch commands ending) = Fits room (batch_course state.contents commands).stands
 FitsIfBatch room state item = ⊤
 
 -- every batch fits the room where it stands in the plain run from this state

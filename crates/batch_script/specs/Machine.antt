@@ -6,6 +6,7 @@ use Rattle.std.specs.FinMap.{FinMap}
 use Rattle.std.specs.FinSet.{FinSet}
 use Rattle.wic_slab.specs.Order.{max_capacity, next_id}
 use Rattle.batch_core.specs.State.{Contents, State}
+use Rattle.batch_core.specs.Course.{batch_course}
 use Rattle.batch_core.specs.Batch.{Outcome, outcome_of}
 use Rattle.batch_core.specs.Room.{Fits}
 use Rattle.batch_core.specs.declared.command.Command.{Command}
@@ -39,7 +40,8 @@ abbrev pub plain_step : State ℕ → PlainItem → Reply × State ℕ
 plain_step state (reserve number) = reserve_step state number
 plain_step state show = (shown_of state.contents, state)
 plain_step state (batch commands ending) =
-    let outcome = outcome_of state.contents commands ending in (answered outcome.0, record state { contents = outcome.1 })
+    let outcome = outcome_of state.contents (batch_course state.contents commands) ending in
+    (answered outcome.0, record state { contents = outcome.1 })
 
 -- the reservation asks for more than the room, and for no more than the limit
 abbrev pub AsksForMore : ℕ → ℕ → Type 0
@@ -49,7 +51,7 @@ AsksForMore room number = (room < number) × (number ≤ max_capacity)
 abbrev pub IsBeyond : State ℕ → PlainItem → Type 0
 IsBeyond state (reserve number) = AsksForMore state.room number
 IsBeyond state show = ⊥
-IsBeyond state (batch commands ending) = ¬ Fits state.room state.contents commands
+IsBeyond state (batch commands ending) = ¬ Fits state.room (batch_course state.contents commands).stands
 
 -- In this state the machine may give this reply to the item, and go on to the next state: what the item comes to, or,
 -- where it is beyond the room, a refusal for memory that leaves the old state.
