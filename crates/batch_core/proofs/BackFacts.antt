@@ -1,9 +1,11 @@
 -- Records undone, part after part, and those of one command.
-use Rattle.std.proofs.Common.{◌≡◌, ℕ, zero, suc, ◌+◌, ◌-◌, ◌<◌, ◌≤◌, Bool, true, false, List, [], ◌∷◌, ◌++◌, map, reverse, length, take, drop, Some}
+use Rattle.std.proofs.Common.{◌≡◌, ℕ, zero, suc, ◌+◌, ◌-◌, ◌<◌, ◌≤◌, Bool, true, false, List, [], ◌∷◌, ◌++◌, map, reverse, length}
+use Rattle.std.proofs.Common.{take, drop, Some}
 use Rattle.std.proofs.Common.{None, refl, sym, ap, subst, ◌∙◌, arith, append_assoc, length-append, length-set, length-drop, is_some}
 use Rattle.std.specs.Prelude.{slice_set, nat_lt, not}
 use Rattle.std.proofs.lemmas.Bool.Decides.{nat_tests}
-use Rattle.std.proofs.lemmas.List.{append-nil, map-append, reverse-append, take-append-drop, drop-append-le, length-map, length-reverse, take-take}
+use Rattle.std.proofs.lemmas.List.{append-nil, map-append, reverse-append, take-append-drop, drop-append-le}
+use Rattle.std.proofs.lemmas.List.{length-map, length-reverse, take-take}
 use Rattle.std.specs.FinMap.{get, insert, remove, len}
 use Rattle.std.specs.FinSet.{contains, insert as with_member, remove as without_member}
 use Rattle.wic_slab.specs.Order.{next_id, take_next, give_back, BelongsTo}

@@ -11,8 +11,8 @@ use crate::laws::{law_alloc_adds_one, law_back_in_two, law_larger_room, law_same
 use crate::workspace::Workspace;
 use wic_vec::TryVec;
 
-// Makes room for n, and then does batches that each fit it where they stand. Once there is the room, memory refuses none of
-// them: the contents are those that the plain machine comes to.
+// Makes room for n, and then applies batches, each of which fits the room when it is applied. Once there is the room, memory refuses
+// none of them: the contents are those that the plain machine comes to.
 pub fn reserve_and_run<T: Drop>(
     workspace: &mut Workspace<T>,
     n: u64,

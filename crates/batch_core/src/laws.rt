@@ -3,7 +3,7 @@ ghost use Rattle.batch_core.specs.Laws.{UndoingGoesBack, GoingBackInTwo};
 ghost use Rattle.batch_core.specs.Laws.{AllocationAddsOne, SameContentsAreEqual};
 ghost use Rattle.batch_core.specs.Many.{FitsLargerRooms};
 
-/// Undoing the records of an admitted command, the last one first, on the contents after it gives the contents before it:
+/// Undoing the records of an admitted command, the newest first, on the contents after it gives the contents before it:
 /// list, set, live values and the order of all later ids. The contracts of `Workspace::step` and `Workspace::back_to` tie
 /// it to the calls.
 pub fn law_undo<T>()

@@ -146,7 +146,7 @@ impl<T: Drop> Workspace<T> {
         Ok(())
     }
 
-    /// Undoes the records after the mark, the last one first, and drops them. It can't be refused and allocates nothing. The
+    /// Undoes the records after the mark, the newest first, and drops them. It can't be refused and allocates nothing. The
     /// room and the capacities stay.
     pub fn back_to(&mut self, mark: usize)
         requires mark { mark ≤ length self.old.records }
@@ -293,7 +293,7 @@ impl<T: Drop> Workspace<T> {
         self.store.same_contents(&other.store)
     }
 
-    // The workspace with all records undone, the last one first.
+    // The workspace with all records undone, the newest first.
     fn taken_back(mut self) -> Workspace<T>
         ensures contents { result.contents ≡ back self.contents self.records 0 }
         ensures records { result.records ≡ [] }

@@ -75,7 +75,7 @@ fn a_sink_too_small_keeps_what_fits(rt: HostRuntime) -> Result<(), Fail> {
     Ok(())
 }
 
-/// A source that remembers the longest buffer that it was asked to fill, and fails where it is asked after its end.
+/// A source that remembers the longest buffer that it was asked to fill, and fails if it is asked after its end.
 #[derive(Drop)]
 struct StrictSource {
     inner: PlainSource,

@@ -1,4 +1,4 @@
-//! Tests of the whole program over devices in memory: each script with the bytes that it is answered by.
+//! Tests of the whole program over devices in memory: each script with the bytes of its replies.
 #![tactic(auto)]
 
 #[cfg(test)]

@@ -11,7 +11,7 @@ pub struct Answer {
     pub sink: MemSink,
 }
 
-/// A vector of its own with these elements.
+/// A new vector with these elements.
 pub fn vector_of<T: Copy>(alloc: Global, elements: &[T]) -> Result<TryVec<T>, OutOfMemory> {
     let mut all = TryVec::new(alloc);
     all.extend_from_slice(elements)?;

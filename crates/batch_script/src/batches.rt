@@ -78,7 +78,7 @@ pub fn top<S: Source, K: Sink>(
     requires can_read { S.can_call source.old }
     requires can_write { K.can_call sink.old }
 
-    // For every script the text of one run of its items is written whole, or memory ran out.
+    // For every script within the premises the text of one run of its items is written whole, or memory ran out.
     ensures headline { (input held : List ℕ) (items : List PlainItem)
         → Premises words.now.items (use_of S.left S.faults source.old source.new)
         (use_of K.written K.faults sink.old sink.new)

@@ -19,7 +19,7 @@ use std::alloc::Global;
 use wic_base::OutOfMemory;
 use wic_vec::{TryString, TryVec};
 
-/// The replies of a script that lies in memory, in a sink of this room. If the room is enough for the text of each run, the sink
+/// The replies to a script in memory, in a sink of this room. If the room is enough for the text of each run, the sink
 /// holds the whole text of one run, or the line of out of memory: no read and no write fails.
 pub fn run_in_memory(
     alloc: Global,

@@ -19,10 +19,10 @@ pub trait Device {
     /// What calls, one after the other, can make of it, of which this many moved bytes.
     ghost reaches: { ℕ → Self → Self → Type 0 };
 
-    /// No call leaves it as it is.
+    /// Zero calls leave it as it is.
     ghost stays: { (device : Self) → reaches 0 device device };
 
-    /// Calls after calls are calls, as many as both.
+    /// Two series of calls are one series, and their numbers add up.
     ghost goes_on: { (first more : ℕ) (before between after : Self)
         → reaches first before between → reaches more between after → reaches (first + more) before after };
 }

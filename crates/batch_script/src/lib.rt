@@ -1,4 +1,4 @@
-//! Scripts of batches: how they are read, run and answered.
+//! Scripts of batches: how they are read and run, and how replies are written.
 //!
 //! A script is a list of items: `reserve n` makes the room larger, `show` tells all that is held, and a batch of commands takes
 //! effect whole or not at all. `parse` returns the items of a script, `run` the text of its replies, and `top` is the whole program:
@@ -9,7 +9,7 @@
 //! pub fn run_in_memory(alloc: Global, script: TryVec<u8>, room: usize) -> Result<(Status, MemSink), OutOfMemory>
 //! ```
 //!
-//! in `src/callers.rt` runs a script that lies in memory, and is proved from the contract of `top` alone: if the room is enough, the
+//! in `src/callers.rt` runs a script that is in memory, and is proved from the contract of `top` alone: if the room is enough, the
 //! sink holds the whole text of one run, or the line of out of memory. `serve_script` there says which statuses are possible over
 //! any devices. `batch/src/main.rt` calls `top` over standard input and output.
 //!

@@ -53,7 +53,7 @@ impl FaultPlan {
     }
 }
 
-/// Input that lies in memory and is read without a fault.
+/// Input in memory that is read without a fault.
 ///
 /// A contract sees the bytes that are left.
 #[derive(Drop)]
@@ -124,7 +124,7 @@ impl Source for PlainSource {
     }
 }
 
-/// Input that lies in memory, is given in pieces, and fails at the calls that it is given.
+/// Input in memory that is given in pieces, and fails at the calls that it is given.
 #[derive(Drop)]
 pub struct MemSource {
     source: PlainSource,

@@ -245,7 +245,7 @@ fn answer_to_source<P: Program, S: Source>(alloc: Global, source: &mut S) -> Ans
 /// A whole program: reads a script from `source`, runs it, and writes the replies to `sink`; or writes what the words ask for.
 ///
 /// With no words, input is read to its end in pieces of 4096 bytes; then the replies to the script are written, or one line that
-/// says why there are none. For all words nothing is read.
+/// says why there are none. With any words nothing is read.
 ///
 /// Returns the status. If several are possible it is, in this order: the usage; a read fault, an input too long or out of memory,
 /// whichever reading meets first; a fault of the script or out of memory; and a write fault in place of any of these. Each write

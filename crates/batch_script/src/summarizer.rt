@@ -75,7 +75,7 @@ fn count_items(items: TryVec<Item>, workspace: &mut Workspace<u64>) -> Result<Co
     Ok(counts)
 }
 
-/// Runs an item, and counts what it came to where it is a batch.
+/// Runs an item, and counts its outcome if it is a batch.
 fn count_item(
     item: Item,
     workspace: &mut Workspace<u64>,
@@ -92,7 +92,7 @@ fn count_item(
     }
 }
 
-/// Makes the room larger, where it may be so large.
+/// Makes the room larger, if that is within the limit.
 fn enlarge(number: u64, workspace: &mut Workspace<u64>) -> Result<(), OutOfMemory>
     ensures state { OnOk result (state_of workspace.new
         ≡ (plain_step (state_of workspace.old) (reservation number)).1) }

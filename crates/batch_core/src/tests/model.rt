@@ -1,4 +1,4 @@
-//! The plain model: it keeps the old state whole, and takes it back where a batch is given up.
+//! The plain model: it keeps the old state whole, and takes it back if a batch is given up.
 use super::applied;
 use crate::{Batch, Command, Done, End, Refusal, Workspace};
 use std::alloc::{AllocError, Global};
@@ -42,7 +42,7 @@ impl Model {
         self.vacant.last().copied().unwrap_or(self.fresh)
     }
 
-    // Does one command, or answers false where it is bad.
+    // Does one command, or returns false if it is bad.
     fn step(&mut self, command: &Command<u64>) -> Result<bool, AllocError> {
         match command {
             Command::Push(value) => self.list.push(*value)?,
@@ -97,7 +97,7 @@ impl Model {
         Ok(true)
     }
 
-    // The number of the first bad command, after those before it took effect; 0 where there is none.
+    // The number of the first bad command, after those before it took effect; 0 if there is none.
     fn run(&mut self, commands: &[Command<u64>]) -> Result<u64, AllocError> {
         for (index, command) in commands.iter().enumerate() {
             if !self.step(command)? {
@@ -167,7 +167,7 @@ impl Draws {
     }
 }
 
-// What a batch must answer, where its first bad command is this one.
+// Whether a batch returns what it must if its first bad command is this one.
 fn is_right(answer: &Result<Done, Refusal>, bad: u64, end: End) -> bool {
     match answer {
         Err(refusal) => bad != 0 && refusal.at == bad,
