@@ -5,22 +5,18 @@ use Rattle.std.specs.List.{flat_map}
 use Rattle.std.proofs.lemmas.List.{append-nil}
 use Rattle.std.proofs.lemmas.List.Concat.{flat_map-append}
 use Rattle.batch_core.specs.State.{empty_state}
-use Rattle.batch_core.specs.Course.{batch_course}
 use Rattle.batch_core.specs.Batch.{Outcome, committed, refused, outcome_of}
 use Rattle.batch_core.specs.Applied.{RefusedFor}
 use Rattle.batch_core.specs.Workspace.{Workspace}
 use Rattle.batch_core.specs.declared.command.Cause.{Cause}
 use Rattle.batch_core.specs.declared.command.Cause.TheVariants.{Empty, Position, Vacant, Full, TooLarge, Oom}
-use Rattle.batch_core.specs.declared.command.Command.{Command}
 use Rattle.batch_core.specs.declared.command.End.{End}
 use Rattle.batch_core.specs.declared.record.Record.{Record}
-use Rattle.batch_script.specs.declared.item.Item.{Item}
 use Rattle.batch_script.specs.declared.kind.BatchKind.{BatchKind}
 use Rattle.batch_script.specs.Kind.{kind_of_cause, kind_text}
-use Rattle.batch_script.specs.Machine.{PlainItem, batch, Reply, answered, ItemStep, Run}
-use Rattle.batch_script.specs.Reading.{plain_item, plain_items}
+use Rattle.batch_script.specs.Machine.{Bodies, ItemOf, batch, Reply, answered, ItemStepOver, RunOver}
 use Rattle.batch_script.specs.Reply.{record_lines, outcome_lines, reply_lines, cause_text, text_of, text_of_lines}
-use Rattle.batch_script.specs.RunText.{IsTextOfRun, Answers, state_of}
+use Rattle.batch_script.specs.RunText.{IsTextOfRunOver, AnswersOver, state_of}
 
 -- one more reply
 pub text_of-more : (replies : List Reply) (reply : Reply)
@@ -34,17 +30,17 @@ pub text-committed : (records : List (Record ℕ))
     → text_of_lines (flat_map record_lines records) ++ codes "committed\n" ≡ text_of_lines (outcome_lines (committed records))
 text-committed records = sym (flat_map-append _ (flat_map record_lines records) (codes "committed" ∷ []))
 
-module _ (old new : Workspace ℕ) (commands : List (Command ℕ)) (ending : End) (same_room : new.room ≡ old.room) where
+module _ {B : Type 0} (bodies : Bodies B) (old new : Workspace ℕ) (body : B) (ending : End) (same_room : new.room ≡ old.room) where
   -- a batch came to its outcome, and the room stays
-  pub batch_step : (outcome : Outcome ℕ) → outcome_of old.contents (batch_course old.contents commands) ending ≡ (outcome, new.contents)
-      → ItemStep (state_of old) (batch commands ending) (answered outcome) (state_of new)
+  pub batch_step : (outcome : Outcome ℕ) → outcome_of old.contents (bodies.course old.contents body) ending ≡ (outcome, new.contents)
+      → ItemStepOver bodies (state_of old) (batch body ending) (answered outcome) (state_of new)
   batch_step outcome came =
       inl (rw came (λ t. (answered outcome, record { contents = new.contents; room = same_room t })))
 
   -- a batch was refused for a cause, which is no want of memory
   pub refused_step : (cause : Cause) (at : ℕ) (why : BatchKind) → kind_of_cause cause ≡ Some why
-      → new.contents ≡ old.contents → RefusedFor old.room old.contents (batch_course old.contents commands) ending cause at
-      → ItemStep (state_of old) (batch commands ending) (answered (refused (record { cause = cause; at = at }))) (state_of new)
+      → new.contents ≡ old.contents → RefusedFor old.room old.contents (bodies.course old.contents body) ending cause at
+      → ItemStepOver bodies (state_of old) (batch body ending) (answered (refused (record { cause = cause; at = at }))) (state_of new)
   refused_step (Oom size) at why is same came = let none : None ≡ Some why = is in cc
   refused_step Empty at why is same came = batch_step _ (rw same came)
   refused_step Position at why is same came = batch_step _ (rw same came)
@@ -56,32 +52,35 @@ module _ (old new : Workspace ℕ) (commands : List (Command ℕ)) (ending : End
 pub cause_text-kind : (cause : Cause) (why : BatchKind) → kind_of_cause cause ≡ Some why → cause_text cause ≡ kind_text why
 cause_text-kind cause why is = rw is refl
 
--- a run of all items, as far as it has come: the replies so far are written, and any run of the items that are left
--- goes on from them
-pub record IsUnderWay (all : List PlainItem) (workspace : Workspace ℕ) (text : List ℕ) (left : List Item) (count : ℕ) : Type 0 where
-  -- the replies so far
-  pub replies : List Reply
-  -- the text is that of these replies
-  pub written : text ≡ text_of replies
-  -- with the replies so far before it, a run of the items that are left is a run of all items
-  pub goes_on : (later : List Reply) → Run (state_of workspace) (plain_items left) later → Run empty_state all (replies ++ later)
-  -- count is the number of items that are left
-  pub counted : count ≡ length left
+module _ {B : Type 0} (bodies : Bodies B) where
+  -- a run of all items, as far as it has come: the replies so far are written, and any run of the items that are left
+  -- goes on from them
+  pub record IsUnderWay (all : List (ItemOf B)) (workspace : Workspace ℕ) (text : List ℕ) (left : List (ItemOf B)) (count : ℕ)
+      : Type 0 where
+    -- the replies so far
+    pub replies : List Reply
+    -- the text is that of these replies
+    pub written : text ≡ text_of replies
+    -- with the replies so far before it, a run of the items that are left is a run of all items
+    pub goes_on : (later : List Reply) → RunOver bodies (state_of workspace) left later
+        → RunOver bodies empty_state all (replies ++ later)
+    -- count is the number of items that are left
+    pub counted : count ≡ length left
 
--- it goes on by one item
-pub under_way-more : (all : List PlainItem) (old new : Workspace ℕ) (before after : List ℕ) (left rest : List Item) (item : Item)
-    (count fewer : ℕ) → IsUnderWay all old before left count → left ≡ item ∷ rest → fewer + 1 ≡ count
-    → Answers (plain_item item) old new before after → IsUnderWay all new after rest fewer
-under_way-more all old new before after left rest item count fewer so_far parts one answer = record {
-  replies = so_far.replies ++ answer.reply ∷ [];
-  written = answer.written ∙ ap (λ bytes. bytes ++ text_of_lines (reply_lines answer.reply)) so_far.written
-      ∙ sym (text_of-more so_far.replies answer.reply);
-  goes_on = λ later run. rw append_assoc (so_far.goes_on (answer.reply ∷ later) (rw parts (state_of new, answer.step, run)));
-  counted = omega (arith, so_far.counted, ap length parts);
-}
+  -- it goes on by one item
+  pub under_way-more : (all : List (ItemOf B)) (old new : Workspace ℕ) (before after : List ℕ) (left rest : List (ItemOf B))
+      (item : ItemOf B) (count fewer : ℕ) → IsUnderWay all old before left count → left ≡ item ∷ rest → fewer + 1 ≡ count
+      → AnswersOver bodies item old new before after → IsUnderWay all new after rest fewer
+  under_way-more all old new before after left rest item count fewer so_far parts one answer = record {
+    replies = so_far.replies ++ answer.reply ∷ [];
+    written = answer.written ∙ ap (λ bytes. bytes ++ text_of_lines (reply_lines answer.reply)) so_far.written
+        ∙ sym (text_of-more so_far.replies answer.reply);
+    goes_on = λ later run. rw append_assoc (so_far.goes_on (answer.reply ∷ later) (rw parts (state_of new, answer.step, run)));
+    counted = omega (arith, so_far.counted, ap length parts);
+  }
 
--- and where no item is left the text is that of a run of all items
-pub text_of_run : (all : List PlainItem) (workspace : Workspace ℕ) (text : List ℕ) (left : List Item) (count : ℕ)
-    → IsUnderWay all workspace text left count → count ≡ 0 → IsTextOfRun all text
-text_of_run all workspace text [] count so_far none = (so_far.replies, rw append-nil at (so_far.goes_on [] tt), so_far.written)
-text_of_run all workspace text (item ∷ left) count so_far none = absurd (omega (arith, so_far.counted))
+  -- and where no item is left the text is that of a run of all items
+  pub text_of_run : (all : List (ItemOf B)) (workspace : Workspace ℕ) (text : List ℕ) (left : List (ItemOf B)) (count : ℕ)
+      → IsUnderWay all workspace text left count → count ≡ 0 → IsTextOfRunOver bodies all text
+  text_of_run all workspace text [] count so_far none = (so_far.replies, rw append-nil at (so_far.goes_on [] tt), so_far.written)
+  text_of_run all workspace text (item ∷ left) count so_far none = absurd (omega (arith, so_far.counted))

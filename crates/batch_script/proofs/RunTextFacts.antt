@@ -7,11 +7,11 @@ use Rattle.wic_slab.specs.Order.{max_capacity}
 use Rattle.batch_core.specs.State.{State, empty_state}
 use Rattle.batch_core.specs.declared.record.Record.TheVariants.{Pushed, Popped, Replaced, Allocated, Freed, Put as Overwritten}
 use Rattle.batch_core.specs.declared.record.Record.TheVariants.{Inserted, Removed, Cut, Truncated}
-use Rattle.batch_core.specs.Course.{batch_course}
 use Rattle.batch_core.specs.Batch.{Outcome, committed, aborted, refused, outcome_of}
-use Rattle.batch_script.specs.Machine.{PlainItem, reserve, show, batch, Reply, no_memory, plain_step, IsBeyond, ItemStep, Run}
+use Rattle.batch_script.specs.Machine.{Bodies, ItemOf, reserve, show, batch, Reply, no_memory}
+use Rattle.batch_script.specs.Machine.{step_over, IsBeyondOver, ItemStepOver, RunOver}
 use Rattle.batch_script.specs.Reply.{reply_lines, outcome_lines, text_of_lines, text_of}
-use Rattle.batch_script.specs.Laws.{TextTellsRun}
+use Rattle.batch_script.specs.Laws.{TextTellsRunOver}
 use Rattle.batch_script.proofs.PlainRunFacts.{reserve_by}
 
 -- the text of one reply
@@ -50,54 +50,56 @@ reserve_tells : (within : Bool) (state : State ℕ) (number : ℕ) (rest : List 
 reserve_tells true state number rest = refl
 reserve_tells false state number rest = refl
 
--- where an item may be refused for memory, the text of its plain reply tells that it wasn't
-plain_tells : (state : State ℕ) (item : PlainItem) (rest : List ℕ) → IsBeyond state item
-    → tells_no_memory (reply_text (plain_step state item).0 ++ rest) ≡ false
-plain_tells state (reserve number) rest beyond = reserve_tells (nat_le number max_capacity) state number rest
-plain_tells state show rest beyond = absurd beyond
-plain_tells state (batch commands ending) rest beyond =
-    batch_tells (outcome_of state.contents (batch_course state.contents commands) ending).0 rest
+module _ {B : Type 0} (bodies : Bodies B) where
+  -- where an item may be refused for memory, the text of its plain reply tells that it wasn't
+  plain_tells : (state : State ℕ) (item : ItemOf B) (rest : List ℕ) → IsBeyondOver bodies state item
+      → tells_no_memory (reply_text (step_over bodies state item).0 ++ rest) ≡ false
+  plain_tells state (reserve number) rest beyond = reserve_tells (nat_le number max_capacity) state number rest
+  plain_tells state show rest beyond = absurd beyond
+  plain_tells state (batch body ending) rest beyond =
+      batch_tells (outcome_of state.contents (bodies.course state.contents body) ending).0 rest
 
--- the text of a plain reply and that of want of memory are apart, whatever follows them
-texts_apart : (state : State ℕ) (item : PlainItem) (rest more : List ℕ) → IsBeyond state item
-    → reply_text (plain_step state item).0 ++ rest ≡ reply_text no_memory ++ more → ⊥
-texts_apart state item rest more beyond same =
-    let plain = plain_tells state item rest beyond in
-    let short : tells_no_memory (reply_text no_memory ++ more) ≡ true = refl in
-    let tells = ap tells_no_memory same in
-    cc
+  -- the text of a plain reply and that of want of memory are apart, whatever follows them
+  texts_apart : (state : State ℕ) (item : ItemOf B) (rest more : List ℕ) → IsBeyondOver bodies state item
+      → reply_text (step_over bodies state item).0 ++ rest ≡ reply_text no_memory ++ more → ⊥
+  texts_apart state item rest more beyond same =
+      let plain = plain_tells state item rest beyond in
+      let short : tells_no_memory (reply_text no_memory ++ more) ≡ true = refl in
+      let tells = ap tells_no_memory same in
+      cc
 
--- state, item and the text that begins with the reply's determine the reply and the next state
-same_step : (state : State ℕ) (item : PlainItem) (reply other : Reply) (next after : State ℕ) (rest more : List ℕ)
-    → ItemStep state item reply next → ItemStep state item other after
-    → reply_text reply ++ rest ≡ reply_text other ++ more → (reply ≡ other) × (next ≡ after)
-same_step state item reply other next after rest more (inl plain) (inl simple) same =
-    (ap (λ p. p.0) (plain ∙ sym simple), ap (λ p. p.1) (plain ∙ sym simple))
-same_step state item reply other next after rest more (inl plain) (inr short) same =
-    absurd (texts_apart state item rest more short.0
-    (ap (λ p. reply_text p.0 ++ rest) (sym plain) ∙ same ∙ ap (λ r. reply_text r ++ more) short.1))
-same_step state item reply other next after rest more (inr short) (inl plain) same =
-    absurd (texts_apart state item more rest short.0
-    (ap (λ p. reply_text p.0 ++ more) (sym plain) ∙ sym same ∙ ap (λ r. reply_text r ++ rest) short.1))
-same_step state item reply other next after rest more (inr short) (inr wanting) same = (cc, cc)
+  -- state, item and the text that begins with the reply's determine the reply and the next state
+  same_step : (state : State ℕ) (item : ItemOf B) (reply other : Reply) (next after : State ℕ) (rest more : List ℕ)
+      → ItemStepOver bodies state item reply next → ItemStepOver bodies state item other after
+      → reply_text reply ++ rest ≡ reply_text other ++ more → (reply ≡ other) × (next ≡ after)
+  same_step state item reply other next after rest more (inl plain) (inl simple) same =
+      (ap (λ p. p.0) (plain ∙ sym simple), ap (λ p. p.1) (plain ∙ sym simple))
+  same_step state item reply other next after rest more (inl plain) (inr short) same =
+      absurd (texts_apart state item rest more short.0
+      (ap (λ p. reply_text p.0 ++ rest) (sym plain) ∙ same ∙ ap (λ r. reply_text r ++ more) short.1))
+  same_step state item reply other next after rest more (inr short) (inl plain) same =
+      absurd (texts_apart state item more rest short.0
+      (ap (λ p. reply_text p.0 ++ more) (sym plain) ∙ sym same ∙ ap (λ r. reply_text r ++ rest) short.1))
+  same_step state item reply other next after rest more (inr short) (inr wanting) same = (cc, cc)
 
--- so text and items determine the replies, from every state
-same_run : (state : State ℕ) (items : List PlainItem) (replies others : List Reply) → Run state items replies → Run state items others
-    → text_of replies ≡ text_of others → replies ≡ others
-same_run state [] [] [] run course same = refl
-same_run state [] [] (other ∷ others) run course same = absurd course
-same_run state [] (reply ∷ replies) others run course same = absurd run
-same_run state (item ∷ items) [] others run course same = absurd run
-same_run state (item ∷ items) (reply ∷ replies) [] run course same = absurd course
-same_run state (item ∷ items) (reply ∷ replies) (other ∷ others) run course same =
-    let texts = sym (text-cons reply replies) ∙ same ∙ text-cons other others in
-    let step = same_step state item reply other run.0 course.0 (text_of replies) (text_of others) run.1 course.1 texts in
-    let first : reply ≡ other = step.0 in
-    let rest = append_cancel_left (reply_text reply) (text_of replies) (text_of others)
-    (texts ∙ ap (λ r. reply_text r ++ text_of others) (sym first)) in
-    let later : replies ≡ others = same_run course.0 items replies others (subst (λ s. Run s items replies) step.1 run.2) course.2 rest in
-    cc
+  -- so text and items determine the replies, from every state
+  same_run : (state : State ℕ) (items : List (ItemOf B)) (replies others : List Reply) → RunOver bodies state items replies
+      → RunOver bodies state items others → text_of replies ≡ text_of others → replies ≡ others
+  same_run state [] [] [] run course same = refl
+  same_run state [] [] (other ∷ others) run course same = absurd course
+  same_run state [] (reply ∷ replies) others run course same = absurd run
+  same_run state (item ∷ items) [] others run course same = absurd run
+  same_run state (item ∷ items) (reply ∷ replies) [] run course same = absurd course
+  same_run state (item ∷ items) (reply ∷ replies) (other ∷ others) run course same =
+      let texts = sym (text-cons reply replies) ∙ same ∙ text-cons other others in
+      let step = same_step state item reply other run.0 course.0 (text_of replies) (text_of others) run.1 course.1 texts in
+      let first : reply ≡ other = step.0 in
+      let rest = append_cancel_left (reply_text reply) (text_of replies) (text_of others)
+      (texts ∙ ap (λ r. reply_text r ++ text_of others) (sym first)) in
+      let later : replies ≡ others =
+      same_run course.0 items replies others (subst (λ s. RunOver bodies s items replies) step.1 run.2) course.2 rest in
+      cc
 
--- two runs of the same items from the empty state with the same text have the same replies
-pub one_run : TextTellsRun
-one_run items replies others = same_run empty_state items replies others
+  -- two runs of the same items from the empty state with the same text have the same replies
+  pub one_run : TextTellsRunOver bodies
+  one_run items replies others = same_run empty_state items replies others

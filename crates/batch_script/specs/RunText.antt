@@ -3,12 +3,17 @@ use Rattle.std.specs.Prelude.{◌≡◌, ◌≤◌, ℕ, List, [], ◌∷◌, �
 use Rattle.batch_core.specs.State.{State, empty_state}
 use Rattle.batch_core.specs.Workspace.{Workspace}
 use Rattle.batch_script.specs.Grammar.{IsScriptOf}
-use Rattle.batch_script.specs.Machine.{PlainItem, Reply, ItemStep, Run}
+use Rattle.batch_script.specs.Machine.{ItemOf, PlainItem, Bodies, batches, Reply, ItemStepOver, RunOver}
 use Rattle.batch_script.specs.Reply.{reply_lines, text_of, text_of_lines}
 
 -- the text is that of the replies of one run of the items from empty
+abbrev pub IsTextOfRunOver : {B : Type 0} → Bodies B → List (ItemOf B) → List ℕ → Type 0
+IsTextOfRunOver bodies items text =
+    (replies : List Reply) × RunOver bodies empty_state items replies × (text ≡ text_of replies)
+
+-- so it is for the items of a script of batches
 abbrev pub IsTextOfRun : List PlainItem → List ℕ → Type 0
-IsTextOfRun items text = (replies : List Reply) × Run empty_state items replies × (text ≡ text_of replies)
+IsTextOfRun = IsTextOfRunOver batches
 
 -- the input is a script, and the text is that of one run of its items from empty
 abbrev pub IsRunText : List ℕ → List ℕ → Type 0
@@ -24,7 +29,12 @@ abbrev pub state_of : Workspace ℕ → State ℕ
 state_of workspace = record { contents = workspace.contents; room = workspace.room }
 
 -- the item took the workspace from old to new, with a reply that the machine may give and whose text was written
-pub record Answers (item : PlainItem) (old new : Workspace ℕ) (before after : List ℕ) : Type 0 where
+pub record AnswersOver {B : Type 0} (bodies : Bodies B) (item : ItemOf B) (old new : Workspace ℕ) (before after : List ℕ)
+    : Type 0 where
   pub reply : Reply
-  pub step : ItemStep (state_of old) item reply (state_of new)
+  pub step : ItemStepOver bodies (state_of old) item reply (state_of new)
   pub written : after ≡ before ++ text_of_lines (reply_lines reply)
+
+-- so it did for an item of a script of batches
+abbrev pub Answers : PlainItem → Workspace ℕ → Workspace ℕ → List ℕ → List ℕ → Type 0
+Answers = AnswersOver batches

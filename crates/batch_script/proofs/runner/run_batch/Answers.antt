@@ -2,7 +2,7 @@ use Rattle.std.proofs.Common.{◌≡◌, Some, sym, ◌∙◌}
 use Rattle.std.proofs.lemmas.Result.{on_ok_weaker}
 use Rattle.batch_core.specs.Batch.{committed, aborted, refused}
 use Rattle.batch_script.specs.Kind.{kind_of_cause}
-use Rattle.batch_script.specs.Machine.{answered}
+use Rattle.batch_script.specs.Machine.{answered, batches}
 use Rattle.batch_script.proofs.RunFacts.{batch_step, refused_step, cause_text-kind}
 use Rattle.batch_script.proofs.runner.run_batch.Goals as goal
 
@@ -11,7 +11,8 @@ returns-in-Ok-Committed c =
     let batch = c.args.batch in
     let new = c.apply.new.self in
     let applied = rw c.in-Ok-Committed.field-0-is at c.in-Ok-Committed.ensures.applied in
-    let step = batch_step c.args.workspace.now new batch.commands.items batch.end c.apply.ensures.room (committed new.records) applied in
+    let step = batch_step batches c.args.workspace.now new batch.commands.items batch.end c.apply.ensures.room
+    (committed new.records) applied in
     record {
       answered =
           on_ok_weaker c.push_committed.result
@@ -27,7 +28,7 @@ returns-in-Ok-Aborted c =
     let batch = c.args.batch in
     let new = c.apply.new.self in
     let applied = rw c.in-Ok-Aborted.field-0-is at c.in-Ok-Aborted.ensures.applied in
-    let step = batch_step c.args.workspace.now new batch.commands.items batch.end c.apply.ensures.room aborted applied.0 in
+    let step = batch_step batches c.args.workspace.now new batch.commands.items batch.end c.apply.ensures.room aborted applied.0 in
     record {
       answered =
           on_ok_weaker c.push_aborted.result (λ lines. record { reply = answered aborted; step = step; written = lines })
@@ -42,8 +43,8 @@ returns-in-Some c =
     let why = c.in-Some.why in
     let is : kind_of_cause refusal.cause ≡ Some why = sym c.of_cause.ensures.kind ∙ c.in-Some.is in
     let applied = c.in-Err.ensures.applied in
-    let step = refused_step c.args.workspace.now new batch.commands.items batch.end c.apply.ensures.room refusal.cause refusal.at why is
-    applied.0 applied.2 in
+    let step = refused_step batches c.args.workspace.now new batch.commands.items batch.end c.apply.ensures.room refusal.cause refusal.at
+    why is applied.0 applied.2 in
     record {
       answered =
           on_ok_weaker c.push_refusal.result
