@@ -4,35 +4,38 @@ use Rattle.std.specs.Prelude.{codes}
 use Rattle.std.specs.List.{AllByRecursion}
 use Rattle.batch_core.specs.declared.command.Command.{Command}
 use Rattle.batch_core.specs.declared.command.End.{End}
-use Rattle.batch_script.specs.Machine.{PlainItem, reserve, show, batch}
-use Rattle.batch_script.specs.Grammar.{Line, IsValidItem, IsValidCommand, line_of, command_line, end_line, printed_lines, all_lines}
+use Rattle.batch_script.specs.Machine.{ItemOf, PlainItem, reserve, show, batch}
+use Rattle.batch_script.specs.Grammar.{Line, IsValidItem, IsValidCommand, line_of, command_line, end_line, all_lines}
+use Rattle.batch_script.specs.Grammar.{Printing, TellsBodies, IsValidItemOver, printed_over, all_lines_over}
 use Rattle.batch_script.specs.Reading.{first_word, first_numbers}
 use Rattle.batch_script.proofs.ScriptFacts.{apart, first_line, batch_lines, command_is_no_end, same_item, no_lines_left}
 
 -- after the lines of items come those of more items
-pub rest-after_items : (done items : List PlainItem) (rest : List Line) → AllByRecursion IsValidItem done
-    → AllByRecursion IsValidItem items
-    → all_lines done ++ rest ≡ all_lines items → (more : List PlainItem) × (rest ≡ all_lines more) × AllByRecursion IsValidItem more
-rest-after_items [] items rest valid sound same = (items, same, sound)
-rest-after_items (item ∷ done) [] rest valid sound same =
-    absurd (no_lines_left item (all_lines done ++ rest) (sym (sym (append_assoc (printed_lines item) (all_lines done) rest) ∙ same)))
-rest-after_items (item ∷ done) (other ∷ items) rest valid sound same =
-    let parts = same_item item other (all_lines done ++ rest) (all_lines items) valid.0 sound.0
-    (sym (append_assoc (printed_lines item) (all_lines done) rest) ∙ same) in
-    rest-after_items done items rest valid.1 sound.1 parts.1
+pub rest-after_items : {B : Type 0} (printing : Printing B) (told : TellsBodies printing) (done items : List (ItemOf B))
+    (rest : List Line) → AllByRecursion (IsValidItemOver printing) done → AllByRecursion (IsValidItemOver printing) items
+    → all_lines_over printing done ++ rest ≡ all_lines_over printing items
+    → (more : List (ItemOf B)) × (rest ≡ all_lines_over printing more) × AllByRecursion (IsValidItemOver printing) more
+rest-after_items printing told [] items rest valid sound same = (items, same, sound)
+rest-after_items printing told (item ∷ done) [] rest valid sound same =
+    absurd (no_lines_left printing item (all_lines_over printing done ++ rest)
+    (sym (sym (append_assoc (printed_over printing item) (all_lines_over printing done) rest) ∙ same)))
+rest-after_items printing told (item ∷ done) (other ∷ items) rest valid sound same =
+    let parts = same_item printing told item other (all_lines_over printing done ++ rest) (all_lines_over printing items) valid.0 sound.0
+    (sym (append_assoc (printed_over printing item) (all_lines_over printing done) rest) ∙ same) in
+    rest-after_items printing told done items rest valid.1 sound.1 parts.1
 
--- the line is the first one of a valid item
-abbrev pub StartsItem : Line → Type 0
-StartsItem line = (item : PlainItem) × IsValidItem item × (line ≡ line_of (first_word item) (first_numbers item))
+module _ {B : Type 0} (printing : Printing B) where
+  -- the line is the first one of a valid item
+  abbrev pub StartsItem : Line → Type 0
+  StartsItem line = (item : ItemOf B) × IsValidItemOver printing item × (line ≡ line_of (first_word item) (first_numbers item))
 
--- a script begins with the first line of an item
-pub starts_item : (line : Line) (rest : List Line) (items : List PlainItem) → AllByRecursion IsValidItem items
-    → line ∷ rest ≡ all_lines items
-    → StartsItem line
-starts_item line rest [] valid same = absurd (let bad : _ = same in cc)
-starts_item line rest (reserve number ∷ items) valid same = (reserve number, valid.0, cc)
-starts_item line rest (show ∷ items) valid same = (show, tt, cc)
-starts_item line rest (batch commands ending ∷ items) valid same = (batch commands ending, valid.0, cc)
+  -- a script begins with the first line of an item
+  pub starts_item : (line : Line) (rest : List Line) (items : List (ItemOf B)) → AllByRecursion (IsValidItemOver printing) items
+      → line ∷ rest ≡ all_lines_over printing items → StartsItem line
+  starts_item line rest [] valid same = absurd (let bad : _ = same in cc)
+  starts_item line rest (reserve number ∷ items) valid same = (reserve number, valid.0, cc)
+  starts_item line rest (show ∷ items) valid same = (show, tt, cc)
+  starts_item line rest (batch body ending ∷ items) valid same = (batch body ending, valid.0, cc)
 
 -- the line goes on with a batch: a command, or its end
 abbrev pub GoesOn : Line → Type 0

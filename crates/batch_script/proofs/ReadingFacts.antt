@@ -1,25 +1,22 @@
--- What a line does to what was read, and where reading stops.
-use Rattle.std.proofs.Common.{◌≡◌, ◌≢◌, ℕ, ◌+◌, ◌<◌, ◌≤◌, List, [], ◌∷◌, ◌++◌, length, take, drop, map, refl, sym, ap, ◌∙◌, subst}
-use Rattle.std.proofs.Common.{inl, inr, arith, append_assoc, length-drop, take-take, Option, Some, None}
+-- What a line does to what was read of a script of batches, and where reading stops.
+use Rattle.std.proofs.Common.{◌≡◌, ◌≢◌, ℕ, ◌≤◌, List, [], ◌∷◌, ◌++◌, length, refl, sym, ap, ◌∙◌, subst}
+use Rattle.std.proofs.Common.{inl, inr, arith, append_assoc, Option, Some, None}
 use Rattle.std.specs.Prelude.{codes, IsSome, option_map}
-use Rattle.std.proofs.lemmas.List.{take-append-drop, append-nil, drop-drop, map-append}
-use Rattle.std.proofs.lemmas.List.Concat.{flat_map-append}
-use Rattle.std.proofs.Math.Seq.{take-add}
+use Rattle.std.proofs.lemmas.List.{append-nil, map-append}
 use Rattle.batch_core.specs.declared.command.Command.{Command}
 use Rattle.batch_core.specs.declared.command.Command.TheVariants.{Push, Pop, Set, Alloc, Free, Put, Insert, Remove, Truncate}
 use Rattle.batch_core.specs.declared.command.End.{End}
 use Rattle.batch_core.specs.declared.command.End.TheVariants.{Commit}
-use Rattle.batch_script.specs.Machine.{PlainItem, reserve, show, batch}
+use Rattle.batch_script.specs.Machine.{ItemOf, PlainItem, reserve, show, batch}
 use Rattle.batch_script.specs.Grammar.{Line, IsValidItem, IsValidCommand, word_of, numbers_of, line_of, command_line, end_line}
-use Rattle.batch_script.specs.Grammar.{printed_lines, all_lines, lines_of, IsOpen, IsScript, IsScriptOf, IsFaultLine}
+use Rattle.batch_script.specs.Grammar.{printed_lines, all_lines, lines_of, IsOpen, IsScript, IsScriptOf}
+use Rattle.batch_script.specs.Grammar.{Printing, batch_printing, IsValidItemOver}
 use Rattle.batch_script.specs.Reading.{AreRead, HasParts, HasNoParts, open_lines, first_word, first_numbers}
 use Rattle.batch_script.proofs.ListFacts.{AllByRecursion-append}
 use Rattle.batch_script.proofs.LineFacts.{same_line}
-use Rattle.batch_script.proofs.ScriptFacts.{command_word, end_word}
-use Rattle.batch_script.proofs.PrefixFacts.{rest-after_items, StartsItem, starts_item, GoesOn, next_line_in_batch, begun_is_no_script}
-
-all_lines-append : (xs ys : List PlainItem) → all_lines (xs ++ ys) ≡ all_lines xs ++ all_lines ys
-all_lines-append xs ys = flat_map-append printed_lines xs ys
+use Rattle.batch_script.proofs.OpenFacts.{all_lines-append, stuck_at_start, stuck_behind, begun_is_stuck}
+use Rattle.batch_script.proofs.PrefixFacts.{StartsItem, GoesOn, next_line_in_batch, begun_is_no_script}
+use Rattle.batch_script.proofs.ScriptFacts.{batches_told, command_word, end_word}
 
 -- an item of one line
 pub read-item : (items : List PlainItem) (item : PlainItem) (lines : List Line) (line : Line) → AreRead items None lines
@@ -30,7 +27,7 @@ read-item items item lines line was valid printed = record {
   valid_open = tt;
   same = ap (λ l. l ++ line ∷ []) (was.same ∙ append-nil (all_lines items))
       ∙ ap (λ more. all_lines items ++ more) (sym (append-nil (printed_lines item) ∙ printed))
-      ∙ sym (all_lines-append items (item ∷ [])) ∙ sym (append-nil (all_lines (items ++ item ∷ [])));
+      ∙ sym (all_lines-append batch_printing items (item ∷ [])) ∙ sym (append-nil (all_lines (items ++ item ∷ [])));
 }
 
 -- a batch begins
@@ -60,7 +57,7 @@ pub read-end : (items : List PlainItem) (commands : List (Command ℕ)) (lines :
 read-end items commands lines line ending was e = record {
   valid_items = AllByRecursion-append IsValidItem items (batch commands ending ∷ []) was.valid_items (was.valid_open, tt);
   valid_open = tt;
-  same = rw (was.same, e, all_lines-append items (batch commands ending ∷ [])) (simp (append_assoc, append-nil));
+  same = rw (was.same, e, all_lines-append batch_printing items (batch commands ending ∷ [])) (simp (append_assoc, append-nil));
 }
 
 -- what was read begins a script
@@ -71,34 +68,28 @@ IsOpen-read items (Some commands) lines was = (
   items ++ batch commands Commit ∷ [],
   end_line Commit ∷ [],
   AllByRecursion-append IsValidItem items (batch commands Commit ∷ []) was.valid_items (was.valid_open, tt),
-  rw (was.same, all_lines-append items (batch commands Commit ∷ [])) (simp (append_assoc, append-nil)),
+  rw (was.same, all_lines-append batch_printing items (batch commands Commit ∷ [])) (simp (append_assoc, append-nil)),
 )
 
 -- the line after these is no first line of an item
-pub stuck_outside : (items : List PlainItem) (lines : List Line) (line : Line) → AreRead items None lines → ¬ StartsItem line
-    → IsOpen (lines ++ line ∷ []) → ⊥
-stuck_outside items lines line was never opened =
-    let apart : all_lines items ++ line ∷ opened.1 ≡ all_lines opened.0 = simp (was.same, append_assoc, append-nil) at opened.3 in
-    let more = rest-after_items items opened.0 (line ∷ opened.1) was.valid_items opened.2 apart in
-    never (starts_item line opened.1 more.0 more.2 more.1)
+pub stuck_outside : (items : List PlainItem) (lines : List Line) (line : Line) → AreRead items None lines
+    → ¬ StartsItem batch_printing line → IsOpen (lines ++ line ∷ []) → ⊥
+stuck_outside items lines line was = stuck_at_start batch_printing batches_told items [] lines was.valid_items was.same line refl
 
 -- in a batch only a command or its end goes on
 pub stuck_in_batch : (items : List PlainItem) (begun : Option (List (Command ℕ))) (lines : List Line) (line : Line) → IsSome begun
     → AreRead items begun lines → ¬ GoesOn line → IsOpen (lines ++ line ∷ []) → ⊥
-stuck_in_batch items None lines line some was never opened = absurd (cc)
-stuck_in_batch items (Some commands) lines line some was never opened =
-    let apart : all_lines items ++ ((codes "begin" ∷ map command_line commands) ++ line ∷ opened.1) ≡ all_lines opened.0 =
-    simp (was.same, append_assoc) at opened.3 in
-    let more = rest-after_items items opened.0 ((codes "begin" ∷ map command_line commands) ++ line ∷ opened.1) was.valid_items opened.2
-    apart in
-    never (next_line_in_batch commands line opened.1 more.0 was.valid_open more.2 more.1)
+stuck_in_batch items None lines line some was never = absurd (cc)
+stuck_in_batch items (Some commands) lines line some was never =
+    stuck_behind batch_printing batches_told items (open_lines (Some commands)) lines was.valid_items was.same line
+    (λ rest more sound same. never (next_line_in_batch commands line rest more was.valid_open sound same))
 
 -- the word and the numbers of an item's first line
-first_parts : (item : PlainItem) → IsValidItem item
+first_parts : {B : Type 0} (printing : Printing B) (item : ItemOf B) → IsValidItemOver printing item
     → HasParts (line_of (first_word item) (first_numbers item)) (first_word item) (first_numbers item) × (length (first_numbers item) ≤ 2)
-first_parts (reserve number) valid = (record { is_word = refl; writable = (valid, tt); same = refl }, omega arith)
-first_parts show valid = (record { is_word = refl; writable = tt; same = refl }, omega arith)
-first_parts (batch commands ending) valid = (record { is_word = refl; writable = tt; same = refl }, omega arith)
+first_parts printing (reserve number) valid = (record { is_word = refl; writable = (valid, tt); same = refl }, omega arith)
+first_parts printing show valid = (record { is_word = refl; writable = tt; same = refl }, omega arith)
+first_parts printing (batch body ending) valid = (record { is_word = refl; writable = tt; same = refl }, omega arith)
 
 few_numbers : (command : Command ℕ) → length (numbers_of command) ≤ 2
 few_numbers (Push value) = omega arith
@@ -112,9 +103,9 @@ few_numbers (Remove number) = omega arith
 few_numbers (Truncate kept) = omega arith
 
 -- a line that is no word with up to two numbers is no first line of an item
-pub none_starts : (line : Line) → HasNoParts line → ¬ StartsItem line
-none_starts line never starts =
-    let parts = first_parts starts.0 starts.1 in
+pub none_starts : {B : Type 0} (printing : Printing B) (line : Line) → HasNoParts line → ¬ StartsItem printing line
+none_starts printing line never starts =
+    let parts = first_parts printing starts.0 starts.1 in
     never (first_word starts.0) (first_numbers starts.0) parts.1
     (subst (λ l. HasParts l (first_word starts.0) (first_numbers starts.0)) (sym starts.2) parts.0)
 
@@ -131,10 +122,10 @@ none_goes_on line never (inr one) =
     never (end_line one.0) [] (omega arith) (record { is_word = (end_word one.0).0; writable = tt; same = one.1 })
 
 -- a word and numbers that start no item
-pub parts_start_none : (line word numbers : List ℕ) → HasParts line word numbers
-    → ((item : PlainItem) → first_numbers item ≡ numbers → first_word item ≢ word) → ¬ StartsItem line
-parts_start_none line word numbers has never starts =
-    let parts = (first_parts starts.0 starts.1).0 in
+pub parts_start_none : {B : Type 0} (printing : Printing B) (line word numbers : List ℕ) → HasParts line word numbers
+    → ((item : ItemOf B) → first_numbers item ≡ numbers → first_word item ≢ word) → ¬ StartsItem printing line
+parts_start_none printing line word numbers has never starts =
+    let parts = (first_parts printing starts.0 starts.1).0 in
     let same = same_line (first_word starts.0) word (first_numbers starts.0) numbers parts.is_word has.is_word parts.writable has.writable
     (sym starts.2 ∙ has.same) in
     never starts.0 same.1 same.0
@@ -165,86 +156,19 @@ some_mapped f (Some value) some = refl
 -- with a batch that has begun and not ended the input is no script
 pub begun-IsScript : (items : List PlainItem) (begun : Option (List (Command ℕ))) (input : List ℕ) → IsSome begun
     → AreRead items begun (lines_of input) → IsScript input → ⊥
-begun-IsScript items None input some was script = absurd (cc)
-begun-IsScript items (Some commands) input some was script =
-    let apart : all_lines items ++ (codes "begin" ∷ map command_line commands) ≡ all_lines script.0 = sym was.same ∙ script.1.lines in
-    let more = rest-after_items items script.0 (codes "begin" ∷ map command_line commands) was.valid_items script.1.valid apart in
-    begun_is_no_script commands more.0 was.valid_open more.1
+begun-IsScript items None input some was = absurd (cc)
+begun-IsScript items (Some commands) input some was =
+    begun_is_stuck batch_printing batches_told items (open_lines (Some commands)) (lines_of input) was.valid_items was.same input refl
+    (λ more sound same. begun_is_no_script commands more was.valid_open same)
 
 -- with all lines read and no batch begun the input is the script of the items
 pub IsScriptOf-read : (items : List PlainItem) (input : List ℕ) → AreRead items None (lines_of input) → IsScriptOf input items
 IsScriptOf-read items input was = record { valid = was.valid_items; lines = was.same ∙ append-nil (all_lines items) }
 
--- a front of lines that begin a script begins one too
-pub IsOpen-front : (front rest : List Line) → IsOpen (front ++ rest) → IsOpen front
-IsOpen-front front rest opened = (opened.0, rest ++ opened.1, opened.2, sym (append_assoc front rest opened.1) ∙ opened.3)
-
--- each front of the lines of a script begins a script
-pub IsOpen-script : (input : List ℕ) (count : ℕ) → IsScript input → IsOpen (take count (lines_of input))
-IsOpen-script input count script =
-    (script.0, drop count (lines_of input), script.1.valid, take-append-drop count (lines_of input) ∙ script.1.lines)
-
-IsOpen-take : (lines : List Line) (count : ℕ) → IsOpen lines → IsOpen (take count lines)
-IsOpen-take lines count opened =
-    IsOpen-front (take count lines) (drop count lines) (subst IsOpen (sym (take-append-drop count lines)) opened)
-
-fewer_open : (lines : List Line) (count fewer : ℕ) → fewer ≤ count → IsOpen (take count lines) → IsOpen (take fewer lines)
-fewer_open lines count fewer below opened =
-    subst IsOpen (take-take fewer count lines below) (IsOpen-take (take count lines) fewer opened)
-
--- where line comes after the first count lines, the first count + 1 lines are those and line
-pub take_next : (lines : List Line) (count : ℕ) (line : Line) (later : List Line) → drop count lines ≡ line ∷ later
-    → take (count + 1) lines ≡ take count lines ++ line ∷ []
-take_next lines count line later next = take-add count 1 lines ∙ ap (λ rest. take count lines ++ take 1 rest) next
-
--- where line comes after the first count lines, and then later, later is what comes after the first count + 1 lines
-pub drop_next : (lines : List Line) (count : ℕ) (line : Line) (later : List Line) → drop count lines ≡ line ∷ later
-    → drop (count + 1) lines ≡ later
-drop_next lines count line later next = sym (drop-drop 1 count lines) ∙ ap (drop 1) next
-
--- the fault is at the first line with which no script begins
-pub IsFaultLine-at : (input : List ℕ) (count : ℕ) (line : Line) (later : List Line) → IsOpen (take count (lines_of input))
-    → drop count (lines_of input) ≡ line ∷ later → ¬ IsOpen (take count (lines_of input) ++ line ∷ [])
-    → (¬ IsScript input) × IsFaultLine input (count + 1)
-IsFaultLine-at input count line later opened next stuck =
-    let lines = lines_of input in
-    let short : count < length lines = omega (arith, length-drop count lines, ap length next) in
-    let front : take (count + 1) lines ≡ take count lines ++ line ∷ [] = take_next lines count line later next in
-    let closed : ¬ IsOpen (take (count + 1) lines) = λ whole. stuck (subst IsOpen front whole) in (
-      (λ script. closed (IsOpen-script input (count + 1) script)),
-      record {
-        counted = omega arith;
-        before = λ fewer below. fewer_open lines count fewer (omega arith) opened;
-        least = inl (omega arith, closed);
-      },
-    )
-
--- with no byte left no line is left
-pub no_lines : (rest : List ℕ) → length rest ≡ 0 → lines_of rest ≡ []
-no_lines [] none = refl
-no_lines (byte ∷ rest) none = absurd (omega arith)
-
--- with no line left the first lines are all lines
-pub take_to_end : (lines : List Line) (count : ℕ) → drop count lines ≡ [] → take count lines ≡ lines
-take_to_end lines count next =
-    let whole = take-append-drop count lines in
-    sym (append-nil (take count lines)) ∙ (rw next at whole)
-
--- where all lines begin a script and the input is none, the fault is behind the last line
-pub IsFaultLine-end : (input : List ℕ) (count : ℕ) → IsOpen (take count (lines_of input)) → drop count (lines_of input) ≡ []
-    → count ≤ length (lines_of input) → IsFaultLine input (count + 1)
-IsFaultLine-end input count opened next within =
-    let all : length (lines_of input) ≡ count = omega (arith, length-drop count (lines_of input), ap length next) in
-    record {
-      counted = omega arith;
-      before = λ fewer below. fewer_open (lines_of input) count fewer (omega arith) opened;
-      least = inr (omega arith);
-    }
-
 -- where a line is no word with up to two numbers no script goes on with it
 pub stuck_with_none : (items : List PlainItem) (begun : Option (List (Command ℕ))) (lines : List Line) (line : Line)
     → AreRead items begun lines
     → HasNoParts line → IsOpen (lines ++ line ∷ []) → ⊥
-stuck_with_none items None lines line was never = stuck_outside items lines line was (none_starts line never)
+stuck_with_none items None lines line was never = stuck_outside items lines line was (none_starts batch_printing line never)
 stuck_with_none items (Some commands) lines line was never =
     stuck_in_batch items (Some commands) lines line refl was (none_goes_on line never)

@@ -1,5 +1,5 @@
 -- The lines of a script can be read as items in one way alone.
-use Rattle.std.proofs.Common.{◌≡◌, ℕ, Bool, true, false, ◌||◌, List, [], ◌∷◌, ◌++◌, get_or, map, refl, sym, ap, ◌∙◌, arith}
+use Rattle.std.proofs.Common.{◌≡◌, ℕ, Bool, true, false, ◌||◌, List, [], ◌∷◌, ◌++◌, get_or, refl, sym, ap, ◌∙◌, arith}
 use Rattle.std.specs.Prelude.{codes, nat_eq, bytes_eq, if◌then◌else◌}
 use Rattle.std.specs.List.{AllByRecursion}
 use Rattle.std.proofs.lemmas.Bool.Decides.{nat_tests}
@@ -7,10 +7,10 @@ use Rattle.batch_core.specs.declared.command.Command.{Command}
 use Rattle.batch_core.specs.declared.command.Command.TheVariants.{Push, Pop, Set, Alloc, Free, Put, Insert, Remove, Truncate}
 use Rattle.batch_core.specs.declared.command.End.{End}
 use Rattle.batch_core.specs.declared.command.End.TheVariants.{Commit, Abort}
-use Rattle.batch_script.specs.Machine.{PlainItem, reserve, show, batch}
-use Rattle.batch_script.specs.Grammar.{Line, line_of, word_of, numbers_of, command_line, end_line, printed_lines, all_lines}
-use Rattle.batch_script.specs.Grammar.{IsValidCommand}
-use Rattle.batch_script.specs.Grammar.{IsValidItem}
+use Rattle.batch_script.specs.Machine.{ItemOf, reserve, show, batch}
+use Rattle.batch_script.specs.Grammar.{Line, line_of, word_of, numbers_of, command_line, end_line, IsValidCommand}
+use Rattle.batch_script.specs.Grammar.{Printing, TellsBodies, ended_lines, printed_over, IsValidItemOver, all_lines_over, batch_printing}
+use Rattle.batch_script.specs.Laws.{LinesTellItemsOver}
 use Rattle.batch_script.specs.Reading.{has_space}
 use Rattle.batch_script.proofs.LineFacts.{same_line}
 
@@ -105,7 +105,7 @@ same_end Abort Abort same = refl
 
 -- the lines of a batch behind its first line, and what follows them
 abbrev pub batch_lines : List (Command ℕ) → End → List Line → List Line
-batch_lines commands ending rest = (map command_line commands ++ end_line ending ∷ []) ++ rest
+batch_lines commands ending rest = ended_lines batch_printing commands ending ++ rest
 
 -- two batches that begin the same lines are the same, and are followed by the same
 same_batch : (commands others : List (Command ℕ)) (ending other : End) (rest more : List Line) → AllByRecursion IsValidCommand commands
@@ -124,42 +124,47 @@ same_batch (first ∷ commands) (second ∷ others) ending other rest more valid
     let commands_same : commands ≡ others = later.0 in
     (cc, later.1, later.2)
 
--- two items that begin the same lines are the same, and are followed by the same
-pub same_item : (item other : PlainItem) (rest more : List Line) → IsValidItem item → IsValidItem other
-    → printed_lines item ++ rest ≡ printed_lines other ++ more → (item ≡ other) × (rest ≡ more)
-same_item (reserve number) (reserve amount) rest more valid sound same =
-    let lines : line_of (codes "reserve") (number ∷ []) ≡ line_of (codes "reserve") (amount ∷ []) = cc in
-    let parts = same_line (codes "reserve") (codes "reserve") (number ∷ []) (amount ∷ []) refl refl (valid, tt) (sound, tt) lines in
-    let numbers : number ∷ [] ≡ amount ∷ [] = parts.1 in
-    (cc, cc)
-same_item (reserve number) show rest more valid sound same = absurd (apart _ _ refl (ap first_line same))
-same_item (reserve number) (batch others end) rest more valid sound same = absurd (apart _ _ refl (ap first_line same))
-same_item show (reserve amount) rest more valid sound same = absurd (apart _ _ refl (ap first_line same))
-same_item show show rest more valid sound same = (refl, cc)
-same_item show (batch others end) rest more valid sound same = absurd (apart _ _ refl (ap first_line same))
-same_item (batch commands ending) (reserve amount) rest more valid sound same = absurd (apart _ _ refl (ap first_line same))
-same_item (batch commands ending) show rest more valid sound same = absurd (apart _ _ refl (ap first_line same))
-same_item (batch commands ending) (batch others end) rest more valid sound same =
-    let tails : batch_lines commands ending rest ≡ batch_lines others end more = cc in
-    let parts = same_batch commands others ending end rest more valid sound tails in
-    let bodies : commands ≡ others = parts.0 in
-    let ends : ending ≡ end = parts.1 in
-    (cc, parts.2)
+-- so the lines of a batch tell it from every other one
+pub batches_told : TellsBodies batch_printing
+batches_told commands others ending end rest more = same_batch commands others ending end rest more
 
 -- the lines of an item, and what follows them, are never none
-pub no_lines_left : (item : PlainItem) (rest : List Line) → [] ≡ printed_lines item ++ rest → ⊥
-no_lines_left (reserve number) rest same = let bad : _ = same in cc
-no_lines_left show rest same = let bad : _ = same in cc
-no_lines_left (batch commands ending) rest same = let bad : _ = same in cc
+pub no_lines_left : {B : Type 0} (printing : Printing B) (item : ItemOf B) (rest : List Line)
+    → [] ≡ printed_over printing item ++ rest → ⊥
+no_lines_left printing (reserve number) rest same = let bad : _ = same in cc
+no_lines_left printing show rest same = let bad : _ = same in cc
+no_lines_left printing (batch body ending) rest same = let bad : _ = same in cc
 
--- valid items that are printed alike, line for line, are the same items
-pub one_script : (items others : List PlainItem) → AllByRecursion IsValidItem items → AllByRecursion IsValidItem others
-    → all_lines items ≡ all_lines others → items ≡ others
-one_script [] [] valid sound same = refl
-one_script [] (other ∷ others) valid sound same = absurd (no_lines_left other (all_lines others) same)
-one_script (item ∷ items) [] valid sound same = absurd (no_lines_left item (all_lines items) (sym same))
-one_script (item ∷ items) (other ∷ others) valid sound same =
-    let parts = same_item item other (all_lines items) (all_lines others) valid.0 sound.0 same in
-    let first : item ≡ other = parts.0 in
-    let later : items ≡ others = one_script items others valid.1 sound.1 parts.1 in
-    cc
+module _ {B : Type 0} (printing : Printing B) (told : TellsBodies printing) where
+  -- two items that begin the same lines are the same, and are followed by the same
+  pub same_item : (item other : ItemOf B) (rest more : List Line) → IsValidItemOver printing item → IsValidItemOver printing other
+      → printed_over printing item ++ rest ≡ printed_over printing other ++ more → (item ≡ other) × (rest ≡ more)
+  same_item (reserve number) (reserve amount) rest more valid sound same =
+      let lines : line_of (codes "reserve") (number ∷ []) ≡ line_of (codes "reserve") (amount ∷ []) = cc in
+      let parts = same_line (codes "reserve") (codes "reserve") (number ∷ []) (amount ∷ []) refl refl (valid, tt) (sound, tt) lines in
+      let numbers : number ∷ [] ≡ amount ∷ [] = parts.1 in
+      (cc, cc)
+  same_item (reserve number) show rest more valid sound same = absurd (apart _ _ refl (ap first_line same))
+  same_item (reserve number) (batch other end) rest more valid sound same = absurd (apart _ _ refl (ap first_line same))
+  same_item show (reserve amount) rest more valid sound same = absurd (apart _ _ refl (ap first_line same))
+  same_item show show rest more valid sound same = (refl, cc)
+  same_item show (batch other end) rest more valid sound same = absurd (apart _ _ refl (ap first_line same))
+  same_item (batch body ending) (reserve amount) rest more valid sound same = absurd (apart _ _ refl (ap first_line same))
+  same_item (batch body ending) show rest more valid sound same = absurd (apart _ _ refl (ap first_line same))
+  same_item (batch body ending) (batch other end) rest more valid sound same =
+      let tails : ended_lines printing body ending ++ rest ≡ ended_lines printing other end ++ more = cc in
+      let parts = told body other ending end rest more valid sound tails in
+      let bodies : body ≡ other = parts.0 in
+      let ends : ending ≡ end = parts.1 in
+      (cc, parts.2)
+
+  -- valid items that are printed alike, line for line, are the same items
+  pub one_script : LinesTellItemsOver printing
+  one_script [] [] valid sound same = refl
+  one_script [] (other ∷ others) valid sound same = absurd (no_lines_left printing other (all_lines_over printing others) same)
+  one_script (item ∷ items) [] valid sound same = absurd (no_lines_left printing item (all_lines_over printing items) (sym same))
+  one_script (item ∷ items) (other ∷ others) valid sound same =
+      let parts = same_item item other (all_lines_over printing items) (all_lines_over printing others) valid.0 sound.0 same in
+      let first : item ≡ other = parts.0 in
+      let later : items ≡ others = one_script items others valid.1 sound.1 parts.1 in
+      cc

@@ -6,7 +6,7 @@ use Rattle.batch_core.specs.State.{empty_state}
 use Rattle.batch_script.specs.Answer.{ReadsAll, status_of, text_of_answer}
 use Rattle.batch_script.specs.Device.{Use, HasFaults, OfTold}
 use Rattle.batch_script.specs.Generated.{generated}
-use Rattle.batch_script.specs.Grammar.{IsScriptOf}
+use Rattle.batch_script.specs.Grammar.{IsScriptOf, batch_printing}
 use Rattle.batch_script.specs.Headline.{Premises, RunsWhole, WantsMemory}
 use Rattle.batch_script.specs.Machine.{PlainItem, Run}
 use Rattle.batch_script.specs.Program.{AsksForSummary, SummarizesRun, batch_meaning}
@@ -18,7 +18,7 @@ use Rattle.batch_script.specs.Words.{AsksForRun}
 use Rattle.batch_script.specs.declared.program.Answer.{Answer}
 use Rattle.batch_script.specs.declared.program.Status.{Status}
 use Rattle.batch_script.specs.declared.program.Status.TheVariants.{Done, Syntax, Oom, ReadFault, WriteFault, TooLong, Usage}
-use Rattle.batch_script.proofs.ScriptFacts.{one_script}
+use Rattle.batch_script.proofs.ScriptFacts.{batches_told, one_script}
 use Rattle.batch_script.proofs.WordFacts.{one_run}
 
 -- bytes and input are the same if Some bytes and Some input are
@@ -175,7 +175,8 @@ two_left_unread first result sink (inr (inr (inr none))) write silent = absurd n
 runs : (result : Status) (written_after : Option (List ℕ)) (input held text : List ℕ) (items : List PlainItem) → result ≡ Done
     → IsRunText input text → IsScriptOf input items → written_after ≡ Some (held ++ text) → RunsWhole result written_after held items
 runs result written_after input held text items is text_of_run script gained =
-    let same = one_script text_of_run.0 items text_of_run.1.valid script.valid (sym text_of_run.1.lines ∙ script.lines) in
+    let same = one_script batch_printing batches_told text_of_run.0 items text_of_run.1.valid script.valid
+    (sym text_of_run.1.lines ∙ script.lines) in
     record {
       done = is;
       replies = text_of_run.2.0;

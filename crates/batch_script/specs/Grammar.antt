@@ -6,7 +6,7 @@ use Rattle.batch_core.specs.declared.command.Command.{Command}
 use Rattle.batch_core.specs.declared.command.Command.TheVariants.{Push, Pop, Set, Alloc, Free, Put, Insert, Remove, Truncate}
 use Rattle.batch_core.specs.declared.command.End.{End}
 use Rattle.batch_core.specs.declared.command.End.TheVariants.{Commit, Abort}
-use Rattle.batch_script.specs.Machine.{PlainItem, reserve, show, batch}
+use Rattle.batch_script.specs.Machine.{ItemOf, PlainItem, reserve, show, batch}
 
 -- a line is its bytes, without the line feed at its end
 abbrev pub Line : Type 0
@@ -59,12 +59,6 @@ abbrev pub end_line : End → Line
 end_line Commit = codes "commit"
 end_line Abort = codes "abort"
 
--- the lines that an item is printed as
-abbrev pub printed_lines : PlainItem → List Line
-printed_lines (reserve number) = line_of (codes "reserve") (number ∷ []) ∷ []
-printed_lines show = codes "show" ∷ []
-printed_lines (batch commands ending) = codes "begin" ∷ map command_line commands ++ end_line ending ∷ []
-
 -- a number that a script can write
 abbrev pub IsWritable : ℕ → Type 0
 IsWritable number = number < 2 ^ 64
@@ -73,32 +67,88 @@ IsWritable number = number < 2 ^ 64
 abbrev pub IsValidCommand : Command ℕ → Type 0
 IsValidCommand command = AllByRecursion IsWritable (numbers_of command)
 
+-- how bodies are printed: the lines of each between the one that begins it and the one that ends it, and which are valid
+pub record Printing (B : Type 0) : Type 1 where
+  pub body_lines : B → List Line
+  pub is_valid : B → Type 0
+
+module _ {B : Type 0} (printing : Printing B) where
+  -- the lines of a body, and the one that ends it
+  abbrev pub ended_lines : B → End → List Line
+  ended_lines body ending = printing.body_lines body ++ end_line ending ∷ []
+
+  -- the lines of a valid body and its end tell it from every other one, whatever follows them
+  abbrev pub TellsBodies : Type 0
+  TellsBodies = (body other : B) (ending end : End) (rest more : List Line) → printing.is_valid body → printing.is_valid other
+      → ended_lines body ending ++ rest ≡ ended_lines other end ++ more → (body ≡ other) × (ending ≡ end) × (rest ≡ more)
+
+  -- the lines that an item is printed as
+  abbrev pub printed_over : ItemOf B → List Line
+  printed_over (reserve number) = line_of (codes "reserve") (number ∷ []) ∷ []
+  printed_over show = codes "show" ∷ []
+  printed_over (batch body ending) = codes "begin" ∷ ended_lines body ending
+
+  -- a reservation's number is one that a script can write, and the body of a batch is valid
+  abbrev pub IsValidItemOver : ItemOf B → Type 0
+  IsValidItemOver (reserve number) = IsWritable number
+  IsValidItemOver show = ⊤
+  IsValidItemOver (batch body ending) = printing.is_valid body
+
+  -- the lines that items are printed as, one item after the other
+  abbrev pub all_lines_over : List (ItemOf B) → List Line
+  all_lines_over = flat_map printed_over
+
+  -- the input is the script of these items
+  pub record IsScriptOfOver (input : List ℕ) (items : List (ItemOf B)) : Type 0 where
+    pub valid : AllByRecursion IsValidItemOver items
+    pub lines : lines_of input ≡ all_lines_over items
+
+  -- the input is a script
+  abbrev pub IsScriptOver : List ℕ → Type 0
+  IsScriptOver input = (items : List (ItemOf B)) × IsScriptOfOver input items
+
+  -- these lines begin the lines of a script
+  abbrev pub IsOpenOver : List Line → Type 0
+  IsOpenOver lines =
+      (items : List (ItemOf B)) × (rest : List Line) × AllByRecursion IsValidItemOver items × (lines ++ rest ≡ all_lines_over items)
+
+  -- The line of the fault of an input that is no script, counted from 1: with the lines before it a script may begin,
+  -- and with it none. It is one past the last line where all lines together begin a script.
+  pub record IsFaultLineOver (input : List ℕ) (line : ℕ) : Type 0 where
+    pub counted : 1 ≤ line
+    pub before : (count : ℕ) → count < line → IsOpenOver (take count (lines_of input))
+    pub least : ((line ≤ length (lines_of input)) × (¬ IsOpenOver (take line (lines_of input)))) ⊎ (line ≡ length (lines_of input) + 1)
+
+-- ---- scripts of batches
+
+-- the body of a batch is printed as the lines of its commands, which have only numbers that a script can write
+abbrev pub batch_printing : Printing (List (Command ℕ))
+batch_printing = record { body_lines = map command_line; is_valid = AllByRecursion IsValidCommand }
+
+-- the lines that an item is printed as
+abbrev pub printed_lines : PlainItem → List Line
+printed_lines = printed_over batch_printing
+
 -- an item has only numbers that a script can write
 abbrev pub IsValidItem : PlainItem → Type 0
-IsValidItem (reserve number) = IsWritable number
-IsValidItem show = ⊤
-IsValidItem (batch commands ending) = AllByRecursion IsValidCommand commands
+IsValidItem = IsValidItemOver batch_printing
 
 -- the lines that items are printed as, one item after the other
 abbrev pub all_lines : List PlainItem → List Line
-all_lines = flat_map printed_lines
+all_lines = all_lines_over batch_printing
 
 -- the input is the script of these items
-pub record IsScriptOf (input : List ℕ) (items : List PlainItem) : Type 0 where
-  pub valid : AllByRecursion IsValidItem items
-  pub lines : lines_of input ≡ all_lines items
+abbrev pub IsScriptOf : List ℕ → List PlainItem → Type 0
+IsScriptOf = IsScriptOfOver batch_printing
 
 -- the input is a script
 abbrev pub IsScript : List ℕ → Type 0
-IsScript input = (items : List PlainItem) × IsScriptOf input items
+IsScript = IsScriptOver batch_printing
 
 -- these lines begin the lines of a script
 abbrev pub IsOpen : List Line → Type 0
-IsOpen lines = (items : List PlainItem) × (rest : List Line) × AllByRecursion IsValidItem items × (lines ++ rest ≡ all_lines items)
+IsOpen = IsOpenOver batch_printing
 
--- The line of the fault of an input that is no script, counted from 1: with the lines before it a script may begin,
--- and with it none. It is one past the last line where all lines together begin a script.
-pub record IsFaultLine (input : List ℕ) (line : ℕ) : Type 0 where
-  pub counted : 1 ≤ line
-  pub before : (count : ℕ) → count < line → IsOpen (take count (lines_of input))
-  pub least : ((line ≤ length (lines_of input)) × (¬ IsOpen (take line (lines_of input)))) ⊎ (line ≡ length (lines_of input) + 1)
+-- the fault of an input that is no script is at this line
+abbrev pub IsFaultLine : List ℕ → ℕ → Type 0
+IsFaultLine = IsFaultLineOver batch_printing

@@ -5,13 +5,13 @@ use Rattle.wic_slab.specs.Order.{max_capacity}
 use Rattle.batch_core.specs.State.{State, empty_state}
 use Rattle.batch_script.specs.Machine.{ItemOf, PlainItem, reserve, show, batch, Bodies, batches, Reply, reserved, AsksForMore, IsPlain}
 use Rattle.batch_script.specs.Machine.{step_over, replies_over, RunOver}
-use Rattle.batch_script.specs.Grammar.{IsValidItem, all_lines}
+use Rattle.batch_script.specs.Grammar.{Printing, batch_printing, IsValidItemOver, all_lines_over}
 use Rattle.batch_script.specs.Reply.{text_of}
 
 -- valid items that are printed alike, line for line, are the same items
-abbrev pub LinesTellItems : Type 0
-LinesTellItems = (items others : List PlainItem) → AllByRecursion IsValidItem items → AllByRecursion IsValidItem others
-    → all_lines items ≡ all_lines others → items ≡ others
+abbrev pub LinesTellItemsOver : {B : Type 0} → Printing B → Type 0
+LinesTellItemsOver {B} printing = (items others : List (ItemOf B)) → AllByRecursion (IsValidItemOver printing) items
+    → AllByRecursion (IsValidItemOver printing) others → all_lines_over printing items ≡ all_lines_over printing others → items ≡ others
 
 -- the item doesn't ask for more than this room
 abbrev pub AsksForNoMore : {B : Type 0} → ℕ → ItemOf B → Type 0
@@ -57,6 +57,10 @@ module _ {B : Type 0} (bodies : Bodies B) where
         → replies ≡ replies_over bodies empty_state items
 
 -- ---- scripts of batches
+
+-- valid items that are printed alike, line for line, are the same items
+abbrev pub LinesTellItems : Type 0
+LinesTellItems = LinesTellItemsOver batch_printing
 
 -- items that are run to one text were given the same replies
 abbrev pub TextTellsRun : Type 0

@@ -11,7 +11,7 @@ use Rattle.batch_script.specs.declared.line.Numbers.TheVariants.{Zero, One, Two}
 use Rattle.batch_script.specs.declared.parser.Reading.{Reading}
 use Rattle.batch_script.specs.declared.parser.Start.{Start}
 use Rattle.batch_script.specs.declared.parser.Start.TheVariants.{Reserve as StartsReserve, Show as StartsShow, Begin as StartsBatch}
-use Rattle.batch_script.specs.Machine.{PlainItem, reserve, show, batch}
+use Rattle.batch_script.specs.Machine.{ItemOf, PlainItem, reserve, show, batch}
 use Rattle.batch_script.specs.Grammar.{Line, IsOpen, IsWritable, IsValidItem, IsValidCommand, all_lines, command_line, line_of, lines_of}
 
 -- an item of the parser as a plain item
@@ -50,16 +50,16 @@ abbrev pub HasNoParts : Line → Type 0
 HasNoParts line = (word numbers : List ℕ) → length numbers ≤ 2 → ¬ HasParts line word numbers
 
 -- the word of the first line of an item
-abbrev pub first_word : PlainItem → List ℕ
+abbrev pub first_word : {B : Type 0} → ItemOf B → List ℕ
 first_word (reserve number) = codes "reserve"
 first_word show = codes "show"
-first_word (batch commands ending) = codes "begin"
+first_word (batch body ending) = codes "begin"
 
 -- the numbers of that line
-abbrev pub first_numbers : PlainItem → List ℕ
+abbrev pub first_numbers : {B : Type 0} → ItemOf B → List ℕ
 first_numbers (reserve number) = number ∷ []
 first_numbers show = []
-first_numbers (batch commands ending) = []
+first_numbers (batch body ending) = []
 
 -- the lines of a batch that has begun and not ended, if there is one
 abbrev pub open_lines : Option (List (Command ℕ)) → List Line

@@ -2,7 +2,7 @@
 use Rattle.std.specs.Prelude.{◌≡◌, ◌≤◌, ℕ, List, [], ◌∷◌, ◌++◌, length, codes}
 use Rattle.batch_core.specs.State.{State, empty_state}
 use Rattle.batch_core.specs.Workspace.{Workspace}
-use Rattle.batch_script.specs.Grammar.{IsScriptOf}
+use Rattle.batch_script.specs.Grammar.{Printing, batch_printing, IsScriptOfOver}
 use Rattle.batch_script.specs.Machine.{ItemOf, PlainItem, Bodies, batches, Reply, ItemStepOver, RunOver}
 use Rattle.batch_script.specs.Reply.{reply_lines, text_of, text_of_lines}
 
@@ -16,8 +16,13 @@ abbrev pub IsTextOfRun : List PlainItem → List ℕ → Type 0
 IsTextOfRun = IsTextOfRunOver batches
 
 -- the input is a script, and the text is that of one run of its items from empty
+abbrev pub IsRunTextOver : {B : Type 0} → Bodies B → Printing B → List ℕ → List ℕ → Type 0
+IsRunTextOver {B} bodies printing input text =
+    (items : List (ItemOf B)) × IsScriptOfOver printing input items × IsTextOfRunOver bodies items text
+
+-- so it is for a script of batches
 abbrev pub IsRunText : List ℕ → List ℕ → Type 0
-IsRunText input text = (items : List PlainItem) × IsScriptOf input items × IsTextOfRun items text
+IsRunText = IsRunTextOver batches batch_printing
 
 -- the room is enough for the text of each run of the script, and for the line of want of memory
 pub record HoldsReplies (room : ℕ) (input : List ℕ) : Type 0 where

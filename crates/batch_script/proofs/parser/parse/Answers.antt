@@ -1,9 +1,9 @@
 use Rattle.std.proofs.Common.{◌≡◌, ◌∙◌, take, length, sym, subst, arith, ap, length-drop, Err}
 use Rattle.std.proofs.lemmas.Bool.Decides.{nat_tests}
-use Rattle.batch_script.specs.Grammar.{lines_of}
+use Rattle.batch_script.specs.Grammar.{batch_printing, lines_of}
 use Rattle.batch_script.specs.Reading.{AreRead, HasRead, begun_in, plain_items}
-use Rattle.batch_script.proofs.ReadingFacts.{IsOpen-read, IsFaultLine-at, IsFaultLine-end, begun-IsScript, some_mapped}
-use Rattle.batch_script.proofs.ReadingFacts.{drop_next, no_lines, take_next, take_to_end}
+use Rattle.batch_script.proofs.OpenFacts.{IsFaultLine-at, IsFaultLine-end, drop_next, no_lines, take_next, take_to_end}
+use Rattle.batch_script.proofs.ReadingFacts.{IsOpen-read, begun-IsScript, some_mapped}
 use Rattle.batch_script.specs.declared.parser.LineRefusal.TheVariants.{Syntax}
 use Rattle.batch_script.proofs.parser.parse.Goals as goal
 
@@ -15,7 +15,7 @@ returns-in-Err-Syntax-clause-refusal c =
     let count = c.loop-rest.line_number in
     let refused : c.take_first_line.result ≡ Err Syntax = c.in-Err-Syntax.is ∙ ap Err c.in-Err-Syntax.field-0-is in
     let stuck = c.take_first_line.ensures.syntax refused in
-    IsFaultLine-at c.args.input.now count stuck.0 stuck.1
+    IsFaultLine-at batch_printing c.args.input.now count stuck.0 stuck.1
     (IsOpen-read (plain_items reading.items.items) (begun_in reading) (take count lines) inv.read)
     (inv.left ∙ stuck.2) (stuck.3 (take count lines) inv.read)
 
@@ -45,5 +45,6 @@ returns-then-is_some-clause-refusal c =
       begun-IsScript items (begun_in reading) c.args.input.now
           (some_mapped (λ commands. commands.items) reading.begun (sym c.is_some.ensures ∙ c.if-is_some.true))
           (subst (AreRead items (begun_in reading)) (take_to_end lines count next) inv.read),
-      IsFaultLine-end c.args.input.now count (IsOpen-read items (begun_in reading) (take count lines) inv.read) next inv.counted,
+      IsFaultLine-end batch_printing c.args.input.now count
+          (IsOpen-read items (begun_in reading) (take count lines) inv.read) next inv.counted,
     )

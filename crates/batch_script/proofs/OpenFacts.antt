@@ -1,0 +1,109 @@
+-- What begins a script, and the line of the fault where none goes on.
+use Rattle.std.proofs.Common.{◌≡◌, ℕ, ◌+◌, ◌<◌, ◌≤◌, List, [], ◌∷◌, ◌++◌, length, take, drop, sym, ap, ◌∙◌, subst}
+use Rattle.std.proofs.Common.{inl, inr, arith, append_assoc, length-drop, take-take, refl}
+use Rattle.std.specs.List.{AllByRecursion}
+use Rattle.std.proofs.lemmas.List.{take-append-drop, append-nil, drop-drop}
+use Rattle.std.proofs.lemmas.List.Concat.{flat_map-append}
+use Rattle.std.proofs.Math.Seq.{take-add}
+use Rattle.batch_script.specs.Machine.{ItemOf}
+use Rattle.batch_script.specs.Grammar.{Line, lines_of, Printing, TellsBodies, IsValidItemOver, printed_over, all_lines_over}
+use Rattle.batch_script.specs.Grammar.{IsOpenOver, IsScriptOver, IsFaultLineOver}
+use Rattle.batch_script.proofs.PrefixFacts.{rest-after_items, StartsItem, starts_item}
+
+-- where line comes after the first count lines, the first count + 1 lines are those and line
+pub take_next : (lines : List Line) (count : ℕ) (line : Line) (later : List Line) → drop count lines ≡ line ∷ later
+    → take (count + 1) lines ≡ take count lines ++ line ∷ []
+take_next lines count line later next = take-add count 1 lines ∙ ap (λ rest. take count lines ++ take 1 rest) next
+
+-- where line comes after the first count lines, and then later, later is what comes after the first count + 1 lines
+pub drop_next : (lines : List Line) (count : ℕ) (line : Line) (later : List Line) → drop count lines ≡ line ∷ later
+    → drop (count + 1) lines ≡ later
+drop_next lines count line later next = sym (drop-drop 1 count lines) ∙ ap (drop 1) next
+
+-- with no byte left no line is left
+pub no_lines : (rest : List ℕ) → length rest ≡ 0 → lines_of rest ≡ []
+no_lines [] none = refl
+no_lines (byte ∷ rest) none = absurd (omega arith)
+
+-- with no line left the first lines are all lines
+pub take_to_end : (lines : List Line) (count : ℕ) → drop count lines ≡ [] → take count lines ≡ lines
+take_to_end lines count next =
+    let whole = take-append-drop count lines in
+    sym (append-nil (take count lines)) ∙ (rw next at whole)
+
+module _ {B : Type 0} (printing : Printing B) where
+  -- the lines of items and of more items are those of all of them
+  pub all_lines-append : (xs ys : List (ItemOf B)) → all_lines_over printing (xs ++ ys)
+      ≡ all_lines_over printing xs ++ all_lines_over printing ys
+  all_lines-append xs ys = flat_map-append (printed_over printing) xs ys
+
+  -- a front of lines that begin a script begins one too
+  pub IsOpen-front : (front rest : List Line) → IsOpenOver printing (front ++ rest) → IsOpenOver printing front
+  IsOpen-front front rest opened = (opened.0, rest ++ opened.1, opened.2, sym (append_assoc front rest opened.1) ∙ opened.3)
+
+  -- each front of the lines of a script begins a script
+  pub IsOpen-script : (input : List ℕ) (count : ℕ) → IsScriptOver printing input → IsOpenOver printing (take count (lines_of input))
+  IsOpen-script input count script =
+      (script.0, drop count (lines_of input), script.1.valid, take-append-drop count (lines_of input) ∙ script.1.lines)
+
+  IsOpen-take : (lines : List Line) (count : ℕ) → IsOpenOver printing lines → IsOpenOver printing (take count lines)
+  IsOpen-take lines count opened =
+      IsOpen-front (take count lines) (drop count lines) (subst (IsOpenOver printing) (sym (take-append-drop count lines)) opened)
+
+  fewer_open : (lines : List Line) (count fewer : ℕ) → fewer ≤ count → IsOpenOver printing (take count lines)
+      → IsOpenOver printing (take fewer lines)
+  fewer_open lines count fewer below opened =
+      subst (IsOpenOver printing) (take-take fewer count lines below) (IsOpen-take (take count lines) fewer opened)
+
+  -- the fault is at the first line with which no script begins
+  pub IsFaultLine-at : (input : List ℕ) (count : ℕ) (line : Line) (later : List Line) → IsOpenOver printing (take count (lines_of input))
+      → drop count (lines_of input) ≡ line ∷ later → ¬ IsOpenOver printing (take count (lines_of input) ++ line ∷ [])
+      → (¬ IsScriptOver printing input) × IsFaultLineOver printing input (count + 1)
+  IsFaultLine-at input count line later opened next stuck =
+      let lines = lines_of input in
+      let short : count < length lines = omega (arith, length-drop count lines, ap length next) in
+      let front : take (count + 1) lines ≡ take count lines ++ line ∷ [] = take_next lines count line later next in
+      let closed : ¬ IsOpenOver printing (take (count + 1) lines) = λ whole. stuck (subst (IsOpenOver printing) front whole) in (
+        (λ script. closed (IsOpen-script input (count + 1) script)),
+        record {
+          counted = omega arith;
+          before = λ fewer below. fewer_open lines count fewer (omega arith) opened;
+          least = inl (omega arith, closed);
+        },
+      )
+
+  -- where all lines begin a script and the input is none, the fault is behind the last line
+  pub IsFaultLine-end : (input : List ℕ) (count : ℕ) → IsOpenOver printing (take count (lines_of input)) → drop count (lines_of input) ≡ []
+      → count ≤ length (lines_of input) → IsFaultLineOver printing input (count + 1)
+  IsFaultLine-end input count opened next within =
+      let all : length (lines_of input) ≡ count = omega (arith, length-drop count (lines_of input), ap length next) in
+      record {
+        counted = omega arith;
+        before = λ fewer below. fewer_open (lines_of input) count fewer (omega arith) opened;
+        least = inr (omega arith);
+      }
+
+module _ {B : Type 0} (printing : Printing B) (told : TellsBodies printing) (items : List (ItemOf B)) (begun lines : List Line)
+    (valid : AllByRecursion (IsValidItemOver printing) items) (are : lines ≡ all_lines_over printing items ++ begun) where
+  -- behind the lines of items and of what has begun no line goes on with which no items are printed
+  pub stuck_behind : (line : Line) → ((rest : List Line) (more : List (ItemOf B)) → AllByRecursion (IsValidItemOver printing) more
+      → begun ++ line ∷ rest ≡ all_lines_over printing more → ⊥) → IsOpenOver printing (lines ++ line ∷ []) → ⊥
+  stuck_behind line never opened =
+      let apart : all_lines_over printing items ++ (begun ++ line ∷ opened.1) ≡ all_lines_over printing opened.0 =
+      simp (are, append_assoc) at opened.3 in
+      let more = rest-after_items printing told items opened.0 (begun ++ line ∷ opened.1) valid opened.2 apart in
+      never opened.1 more.0 more.2 more.1
+
+  -- nor does a line that starts no item where nothing has begun
+  pub stuck_at_start : (line : Line) → begun ≡ [] → ¬ StartsItem printing line → IsOpenOver printing (lines ++ line ∷ []) → ⊥
+  stuck_at_start line none never =
+      stuck_behind line (λ rest more sound same.
+      never (starts_item printing line rest more sound (ap (λ front. front ++ line ∷ rest) (sym none) ∙ same)))
+
+  -- an input of these lines is no script if no items are printed as what has begun
+  pub begun_is_stuck : (input : List ℕ) → lines ≡ lines_of input → ((more : List (ItemOf B))
+      → AllByRecursion (IsValidItemOver printing) more → begun ≡ all_lines_over printing more → ⊥) → IsScriptOver printing input → ⊥
+  begun_is_stuck input same never script =
+      let apart : all_lines_over printing items ++ begun ≡ all_lines_over printing script.0 = sym are ∙ same ∙ script.1.lines in
+      let more = rest-after_items printing told items script.0 begun valid script.1.valid apart in
+      never more.0 more.2 more.1
