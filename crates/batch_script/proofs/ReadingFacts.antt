@@ -1,22 +1,20 @@
 -- What a line does to what was read of a script of batches, and where reading stops.
-use Rattle.std.proofs.Common.{◌≡◌, ◌≢◌, ℕ, ◌≤◌, List, [], ◌∷◌, ◌++◌, length, refl, sym, ap, ◌∙◌, subst}
+use Rattle.std.proofs.Common.{◌≡◌, ◌≢◌, ℕ, ◌≤◌, List, [], ◌∷◌, ◌++◌, length, refl, sym, ap, ◌∙◌}
 use Rattle.std.proofs.Common.{inl, inr, arith, append_assoc, Option, Some, None}
-use Rattle.std.specs.Prelude.{codes, IsSome, option_map}
+use Rattle.std.specs.Prelude.{codes, IsSome}
 use Rattle.std.proofs.lemmas.List.{append-nil, map-append}
 use Rattle.batch_core.specs.declared.command.Command.{Command}
-use Rattle.batch_core.specs.declared.command.Command.TheVariants.{Push, Pop, Set, Alloc, Free, Put, Insert, Remove, Truncate}
 use Rattle.batch_core.specs.declared.command.End.{End}
-use Rattle.batch_core.specs.declared.command.End.TheVariants.{Commit}
 use Rattle.batch_script.specs.Machine.{ItemOf, PlainItem, reserve, show, batch}
 use Rattle.batch_script.specs.Grammar.{Line, IsValidItem, IsValidCommand, word_of, numbers_of, line_of, command_line, end_line}
 use Rattle.batch_script.specs.Grammar.{printed_lines, all_lines, lines_of, IsOpen, IsScript, IsScriptOf}
 use Rattle.batch_script.specs.Grammar.{Printing, batch_printing, IsValidItemOver}
 use Rattle.batch_script.specs.Reading.{AreRead, HasParts, HasNoParts, open_lines, first_word, first_numbers}
-use Rattle.batch_script.proofs.ListFacts.{AllByRecursion-append}
+use Rattle.batch_script.specs.ReadingLaws.{AllByRecursion-append, few_numbers, one_word}
 use Rattle.batch_script.proofs.LineFacts.{same_line}
 use Rattle.batch_script.proofs.OpenFacts.{all_lines-append, stuck_at_start, stuck_behind, begun_is_stuck}
 use Rattle.batch_script.proofs.PrefixFacts.{StartsItem, GoesOn, next_line_in_batch, begun_is_no_script}
-use Rattle.batch_script.proofs.ScriptFacts.{batches_told, command_word, end_word}
+use Rattle.batch_script.proofs.ScriptFacts.{batches_told, end_word}
 
 -- an item of one line
 pub read-item : (items : List PlainItem) (item : PlainItem) (lines : List Line) (line : Line) → AreRead items None lines
@@ -60,17 +58,6 @@ read-end items commands lines line ending was e = record {
   same = rw (was.same, e, all_lines-append batch_printing items (batch commands ending ∷ [])) (simp (append_assoc, append-nil));
 }
 
--- what was read begins a script
-pub IsOpen-read : (items : List PlainItem) (begun : Option (List (Command ℕ))) (lines : List Line) → AreRead items begun lines
-    → IsOpen lines
-IsOpen-read items None lines was = (items, [], was.valid_items, rw was.same (simp append-nil))
-IsOpen-read items (Some commands) lines was = (
-  items ++ batch commands Commit ∷ [],
-  end_line Commit ∷ [],
-  AllByRecursion-append IsValidItem items (batch commands Commit ∷ []) was.valid_items (was.valid_open, tt),
-  rw (was.same, all_lines-append batch_printing items (batch commands Commit ∷ [])) (simp (append_assoc, append-nil)),
-)
-
 -- the line after these is no first line of an item
 pub stuck_outside : (items : List PlainItem) (lines : List Line) (line : Line) → AreRead items None lines
     → ¬ StartsItem batch_printing line → IsOpen (lines ++ line ∷ []) → ⊥
@@ -91,35 +78,11 @@ first_parts printing (reserve number) valid = (record { is_word = refl; writable
 first_parts printing show valid = (record { is_word = refl; writable = tt; same = refl }, omega arith)
 first_parts printing (batch body ending) valid = (record { is_word = refl; writable = tt; same = refl }, omega arith)
 
-few_numbers : (command : Command ℕ) → length (numbers_of command) ≤ 2
-few_numbers (Push value) = omega arith
-few_numbers Pop = omega arith
-few_numbers (Set at value) = omega arith
-few_numbers (Alloc value) = omega arith
-few_numbers (Free id) = omega arith
-few_numbers (Put id value) = omega arith
-few_numbers (Insert number) = omega arith
-few_numbers (Remove number) = omega arith
-few_numbers (Truncate kept) = omega arith
-
--- a line that is no word with up to two numbers is no first line of an item
-pub none_starts : {B : Type 0} (printing : Printing B) (line : Line) → HasNoParts line → ¬ StartsItem printing line
-none_starts printing line never starts =
-    let parts = first_parts printing starts.0 starts.1 in
-    never (first_word starts.0) (first_numbers starts.0) parts.1
-    (subst (λ l. HasParts l (first_word starts.0) (first_numbers starts.0)) (sym starts.2) parts.0)
-
 -- a line that is no word with up to two numbers is no command
 pub none_is_command : (line : Line) → HasNoParts line → (command : Command ℕ) → IsValidCommand command → line ≢ command_line command
 none_is_command line never command valid same =
     never (word_of command) (numbers_of command) (few_numbers command)
-    (record { is_word = (command_word command).0; writable = valid; same = same })
-
--- nor does it end a batch
-pub none_goes_on : (line : Line) → HasNoParts line → ¬ GoesOn line
-none_goes_on line never (inl one) = none_is_command line never one.0 one.1 one.2
-none_goes_on line never (inr one) =
-    never (end_line one.0) [] (omega arith) (record { is_word = (end_word one.0).0; writable = tt; same = one.1 })
+    (record { is_word = one_word command; writable = valid; same = same })
 
 -- a word and numbers that start no item
 pub parts_start_none : {B : Type 0} (printing : Printing B) (line word numbers : List ℕ) → HasParts line word numbers
@@ -135,7 +98,7 @@ pub parts_are_no_command : (line word numbers : List ℕ) → HasParts line word
     → ((command : Command ℕ) → numbers_of command ≡ numbers → word_of command ≢ word)
     → (command : Command ℕ) → IsValidCommand command → line ≢ command_line command
 parts_are_no_command line word numbers has never command valid is =
-    let same = same_line (word_of command) word (numbers_of command) numbers (command_word command).0 has.is_word valid has.writable
+    let same = same_line (word_of command) word (numbers_of command) numbers (one_word command) has.is_word valid has.writable
     (sym is ∙ has.same) in
     never command same.1 same.0
 
@@ -148,11 +111,6 @@ parts_go_on_nowhere line word numbers has never nor (inr one) =
     let same = same_line (end_line one.0) word [] numbers (end_word one.0).0 has.is_word tt has.writable (sym one.1 ∙ has.same) in
     nor one.0 (sym same.1) same.0
 
--- what is made of a value that is there is there
-pub some_mapped : {A B : Type 0} (f : A → B) (o : Option A) → IsSome o → IsSome (option_map f o)
-some_mapped f None some = absurd (cc)
-some_mapped f (Some value) some = refl
-
 -- with a batch that has begun and not ended the input is no script
 pub begun-IsScript : (items : List PlainItem) (begun : Option (List (Command ℕ))) (input : List ℕ) → IsSome begun
     → AreRead items begun (lines_of input) → IsScript input → ⊥
@@ -164,11 +122,3 @@ begun-IsScript items (Some commands) input some was =
 -- with all lines read and no batch begun the input is the script of the items
 pub IsScriptOf-read : (items : List PlainItem) (input : List ℕ) → AreRead items None (lines_of input) → IsScriptOf input items
 IsScriptOf-read items input was = record { valid = was.valid_items; lines = was.same ∙ append-nil (all_lines items) }
-
--- where a line is no word with up to two numbers no script goes on with it
-pub stuck_with_none : (items : List PlainItem) (begun : Option (List (Command ℕ))) (lines : List Line) (line : Line)
-    → AreRead items begun lines
-    → HasNoParts line → IsOpen (lines ++ line ∷ []) → ⊥
-stuck_with_none items None lines line was never = stuck_outside items lines line was (none_starts batch_printing line never)
-stuck_with_none items (Some commands) lines line was never =
-    stuck_in_batch items (Some commands) lines line refl was (none_goes_on line never)

@@ -12,6 +12,7 @@ use Rattle.batch_script.specs.Grammar.{Line, line_of, word_of, numbers_of, comma
 use Rattle.batch_script.specs.Grammar.{Printing, TellsBodies, ended_lines, printed_over, IsValidItemOver, all_lines_over, batch_printing}
 use Rattle.batch_script.specs.Laws.{LinesTellItemsOver}
 use Rattle.batch_script.specs.Reading.{has_space}
+use Rattle.batch_script.specs.ReadingLaws.{one_word}
 use Rattle.batch_script.proofs.LineFacts.{same_line}
 
 -- the command of a word and its numbers
@@ -46,24 +47,24 @@ same_again (Truncate kept) = refl
 abbrev is_end : List ℕ → Bool
 is_end word = bytes_eq word (codes "commit") || bytes_eq word (codes "abort")
 
--- the word of a command has no space, and ends no batch
-pub command_word : (command : Command ℕ) → (has_space (word_of command) ≡ false) × (is_end (word_of command) ≡ false)
-command_word (Push value) = (refl, refl)
-command_word Pop = (refl, refl)
-command_word (Set at value) = (refl, refl)
-command_word (Alloc value) = (refl, refl)
-command_word (Free id) = (refl, refl)
-command_word (Put id value) = (refl, refl)
-command_word (Insert number) = (refl, refl)
-command_word (Remove number) = (refl, refl)
-command_word (Truncate kept) = (refl, refl)
+-- the word of a command ends no batch
+pub no_end_word : (command : Command ℕ) → is_end (word_of command) ≡ false
+no_end_word (Push value) = refl
+no_end_word Pop = refl
+no_end_word (Set at value) = refl
+no_end_word (Alloc value) = refl
+no_end_word (Free id) = refl
+no_end_word (Put id value) = refl
+no_end_word (Insert number) = refl
+no_end_word (Remove number) = refl
+no_end_word (Truncate kept) = refl
 
 -- a command is known by its line
 same_command : (command other : Command ℕ) → IsValidCommand command → IsValidCommand other → command_line command ≡ command_line other
     → command ≡ other
 same_command command other valid sound same =
-    let parts = same_line (word_of command) (word_of other) (numbers_of command) (numbers_of other) (command_word command).0
-    (command_word other).0 valid sound same in
+    let parts = same_line (word_of command) (word_of other) (numbers_of command) (numbers_of other) (one_word command)
+    (one_word other) valid sound same in
     sym (same_again command)
     ∙ (λ i. command_from (parts.0 i) (get_or (parts.1 i) 0 0) (get_or (parts.1 i) 1 0))
     ∙ same_again other
@@ -76,9 +77,9 @@ end_word Abort = (refl, refl)
 -- the line of a command ends no batch
 pub command_is_no_end : (command : Command ℕ) (ending : End) → IsValidCommand command → command_line command ≡ end_line ending → ⊥
 command_is_no_end command ending valid same =
-    let parts = same_line (word_of command) (end_line ending) (numbers_of command) [] (command_word command).0
+    let parts = same_line (word_of command) (end_line ending) (numbers_of command) [] (one_word command)
     (end_word ending).0 valid tt same in
-    let not_end = (command_word command).1 in
+    let not_end = no_end_word command in
     let ends = (end_word ending).1 in
     let words = ap is_end parts.0 in
     cc

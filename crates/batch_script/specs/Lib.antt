@@ -13,6 +13,7 @@ pub mod MemoryDevice
 pub mod Program
 pub mod ProgramLaws
 pub mod Reading
+pub mod ReadingLaws
 pub mod Refusal
 pub mod Reply
 pub mod RunText

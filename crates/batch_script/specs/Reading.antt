@@ -12,17 +12,8 @@ use Rattle.batch_script.specs.declared.parser.Reading.{Reading}
 use Rattle.batch_script.specs.declared.parser.Start.{Start}
 use Rattle.batch_script.specs.declared.parser.Start.TheVariants.{Reserve as StartsReserve, Show as StartsShow, Begin as StartsBatch}
 use Rattle.batch_script.specs.Machine.{ItemOf, PlainItem, reserve, show, batch}
-use Rattle.batch_script.specs.Grammar.{Line, IsOpen, IsWritable, IsValidItem, IsValidCommand, all_lines, command_line, line_of, lines_of}
-
--- an item of the parser as a plain item
-abbrev pub plain_item : Item → PlainItem
-plain_item (Reserve number) = reserve number
-plain_item Show = show
-plain_item (Batch read) = batch read.commands.items read.end
-
--- items of the parser as plain items
-abbrev pub plain_items : List Item → List PlainItem
-plain_items = map plain_item
+use Rattle.batch_script.specs.Grammar.{Line, IsWritable, IsValidItem, IsValidCommand, all_lines, command_line, line_of, lines_of}
+use Rattle.batch_script.specs.Grammar.{Printing, batch_printing, IsOpenOver}
 
 -- whether a space stands in the text
 abbrev pub has_space : List ℕ → Bool
@@ -49,6 +40,14 @@ pub record HasParts (line word numbers : List ℕ) : Type 0 where
 abbrev pub HasNoParts : Line → Type 0
 HasNoParts line = (word numbers : List ℕ) → length numbers ≤ 2 → ¬ HasParts line word numbers
 
+-- the line is a word with up to two numbers
+abbrev pub HasSomeParts : Line → Type 0
+HasSomeParts line = (word : List ℕ) × (numbers : List ℕ) × (length numbers ≤ 2) × HasParts line word numbers
+
+-- so is each line of a valid body
+abbrev pub HasPartsThroughout : {B : Type 0} → Printing B → Type 0
+HasPartsThroughout {B} printing = (body : B) → printing.is_valid body → AllByRecursion HasSomeParts (printing.body_lines body)
+
 -- the word of the first line of an item
 abbrev pub first_word : {B : Type 0} → ItemOf B → List ℕ
 first_word (reserve number) = codes "reserve"
@@ -60,6 +59,43 @@ abbrev pub first_numbers : {B : Type 0} → ItemOf B → List ℕ
 first_numbers (reserve number) = number ∷ []
 first_numbers show = []
 first_numbers (batch body ending) = []
+
+-- ---- what takes lines, whatever it makes of them
+
+module _ {R : Type 0} where
+  -- where it had taken lines so, it takes a line of this word and these numbers behind them
+  abbrev pub TakesLineOver : (R → List Line → Type 0) → (R → List Line → Type 0) → R → R → List ℕ → List ℕ → Type 0
+  TakesLineOver Had Has old new word numbers =
+      (lines : List Line) (line : Line) → HasParts line word numbers → Had old lines → Has new (lines ++ line ∷ [])
+
+  -- the input has a first line, and where it had taken lines, it takes this one behind them and leaves the others
+  abbrev pub TakesFirstLine : (R → List Line → Type 0) → R → R → List ℕ → List ℕ → Type 0
+  TakesFirstLine Has old new input later =
+      (line : Line) × (lines_of input ≡ line ∷ lines_of later) × ((lines : List Line) → Has old lines → Has new (lines ++ line ∷ []))
+
+module _ {B R : Type 0} (printing : Printing B) (Had : R → List Line → Type 0) (old : R) where
+  -- where it had taken lines so, no line of this word and these numbers goes on behind them
+  abbrev pub RefusesLineOver : List ℕ → List ℕ → Type 0
+  RefusesLineOver word numbers =
+      (lines : List Line) (line : Line) → HasParts line word numbers → Had old lines → ¬ IsOpenOver printing (lines ++ line ∷ [])
+
+  -- the input has a first line, and where it had taken lines, no script goes on with this one behind them
+  abbrev pub RefusesFirstLine : List ℕ → Type 0
+  RefusesFirstLine input =
+      (line : Line) × (later : List Line) × (lines_of input ≡ line ∷ later)
+      × ((lines : List Line) → Had old lines → ¬ IsOpenOver printing (lines ++ line ∷ []))
+
+-- ---- scripts of batches
+
+-- an item of the parser as a plain item
+abbrev pub plain_item : Item → PlainItem
+plain_item (Reserve number) = reserve number
+plain_item Show = show
+plain_item (Batch read) = batch read.commands.items read.end
+
+-- items of the parser as plain items
+abbrev pub plain_items : List Item → List PlainItem
+plain_items = map plain_item
 
 -- the lines of a batch that has begun and not ended, if there is one
 abbrev pub open_lines : Option (List (Command ℕ)) → List Line
@@ -101,21 +137,8 @@ IsInside reading lines = IsSome (begun_in reading) × HasRead reading lines
 
 -- where the reading had taken lines so, it takes a line of this word and these numbers behind them
 abbrev pub TakesLine : (Reading → List Line → Type 0) → Reading → Reading → List ℕ → List ℕ → Type 0
-TakesLine Had old new word numbers =
-    (lines : List Line) (line : Line) → HasParts line word numbers → Had old lines → HasRead new (lines ++ line ∷ [])
+TakesLine Had = TakesLineOver Had HasRead
 
 -- where it had taken lines so, no line of this word and these numbers goes on behind them
 abbrev pub RefusesLine : (Reading → List Line → Type 0) → Reading → List ℕ → List ℕ → Type 0
-RefusesLine Had old word numbers =
-    (lines : List Line) (line : Line) → HasParts line word numbers → Had old lines → ¬ IsOpen (lines ++ line ∷ [])
-
--- the input has a first line, and where the reading had taken lines, it takes this one behind them and leaves the others
-abbrev pub TakesFirstLine : Reading → Reading → List ℕ → List ℕ → Type 0
-TakesFirstLine old new input later =
-    (line : Line) × (lines_of input ≡ line ∷ lines_of later) × ((lines : List Line) → HasRead old lines → HasRead new (lines ++ line ∷ []))
-
--- the input has a first line, and where the reading had taken lines, no script goes on with this one behind them
-abbrev pub RefusesFirstLine : Reading → List ℕ → Type 0
-RefusesFirstLine old input =
-    (line : Line) × (later : List Line) × (lines_of input ≡ line ∷ later)
-    × ((lines : List Line) → HasRead old lines → ¬ IsOpen (lines ++ line ∷ []))
+RefusesLine = RefusesLineOver batch_printing

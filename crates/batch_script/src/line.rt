@@ -7,10 +7,13 @@ ghost use Rattle.batch_script.specs.Reading.{HasParts, listed};
 use crate::number::read_number;
 
 /// The numbers of a line.
-#[derive(Clone, Copy)]
-pub(crate) enum Numbers {
+#[derive(Clone, Copy, Debug, PartialEq, Eq)]
+pub enum Numbers {
+    /// None.
     Zero,
+    /// One.
     One(u64),
+    /// Two, in order.
     Two(u64, u64),
 }
 

@@ -4,18 +4,18 @@ ghost use Rattle.std.specs.Prelude.{IfSome, IfNone, IfOk, IfErr, OnOk, MatchOpti
 ghost use Rattle.batch_core.specs.declared.command.Command.{Command};
 ghost use Rattle.batch_core.specs.declared.command.End.{End};
 ghost use Rattle.batch_script.specs.Machine.{PlainItem};
-ghost use Rattle.batch_script.specs.Grammar.{Line, IsOpen, IsScriptOf, IsValidCommand};
-ghost use Rattle.batch_script.specs.Grammar.{command_line, word_of, numbers_of, end_line, lines_of};
+ghost use Rattle.batch_script.specs.Grammar.{IsScriptOf, IsValidCommand};
+ghost use Rattle.batch_script.specs.Grammar.{command_line, word_of, numbers_of, end_line};
 ghost use Rattle.batch_script.specs.Front.{IsOneLine};
 ghost use Rattle.batch_script.specs.Reading.{first_word, first_numbers, listed, plain_items, started};
 ghost use Rattle.batch_script.specs.Refusal.{IsJustified};
 
 use crate::item::{Item, Script};
 use crate::line::{Numbers, read_line};
+use crate::line_reader::{LineReader, LineRefusal, read_script};
 use crate::run_error::RunError;
 use batch_core::{Batch, Command, End};
 use std::alloc::Global;
-use wic_base::OutOfMemory;
 use wic_vec::TryVec;
 
 /// The command of this word and these numbers.
@@ -113,24 +113,6 @@ fn start_of(word: &[u8], numbers: Numbers) -> Option<Start>
     }
 }
 
-/// Why a line was not taken.
-#[derive(Drop)]
-enum LineRefusal {
-    Syntax,
-    Oom,
-}
-
-impl From<OutOfMemory> for LineRefusal {
-    ghost use Rattle.std.specs.Prelude.{◌≡◌};
-    ghost use Rattle.batch_script.specs.declared.parser.LineRefusal.TheVariants.{Oom};
-
-    ghost from_gives = { λ _ refusal. refusal ≡ Oom };
-
-    fn from(_: OutOfMemory) -> LineRefusal {
-        LineRefusal::Oom
-    }
-}
-
 /// The items that were read, and the commands of a batch that has begun and not ended.
 #[derive(Drop)]
 pub(crate) struct Reading {
@@ -139,56 +121,7 @@ pub(crate) struct Reading {
 }
 
 impl Reading {
-    ghost use Rattle.batch_script.specs.Reading.{HasRead, IsInside, IsOutside, RefusesFirstLine, RefusesLine, TakesFirstLine, TakesLine};
-
-    fn new(alloc: Global) -> Reading
-        ensures { HasRead result [] }
-    {
-        Reading {
-            items: TryVec::new(alloc),
-            begun: None,
-        }
-    }
-
-    /// Takes the first line of an input, and returns what follows it.
-    fn take_first_line<'a>(
-        &mut self,
-        alloc: Global,
-        input: &'a [u8],
-    ) -> Result<&'a [u8], LineRefusal>
-        requires some { 0 < length input.now }
-        ensures ok { IfOk result (λ later. TakesFirstLine self.old self.new input.now later.now) }
-        ensures shorter { IfOk result (λ later. length later.now < length input.now) }
-        ensures syntax { result ≡ Err LineRefusal.Syntax → RefusesFirstLine self.old input.now }
-    {
-        match read_line(input) {
-            None => Err(LineRefusal::Syntax),
-            Some((word, numbers, later)) => {
-                self.take_parts(alloc, word, numbers)?;
-                Ok(later)
-            }
-        }
-    }
-
-    /// Goes on by a line of this word and these numbers.
-    fn take_parts(
-        &mut self,
-        alloc: Global,
-        word: &[u8],
-        numbers: Numbers,
-    ) -> Result<(), LineRefusal>
-        ensures ok { OnOk result (TakesLine HasRead self.old self.new word.now (listed numbers)) }
-        ensures syntax { result ≡ Err LineRefusal.Syntax
-            → RefusesLine HasRead self.old word.now (listed numbers) }
-    {
-        match &mut self.begun {
-            None => self.take_outside(alloc, word, numbers),
-            Some(commands) => match command_of(word, numbers) {
-                Some(command) => Ok(commands.push(command)?),
-                None => self.take_end(word, numbers),
-            },
-        }
-    }
+    ghost use Rattle.batch_script.specs.Reading.{IsInside, IsOutside, RefusesLine, TakesLine};
 
     /// Goes on by a line of this word and these numbers if no batch has begun.
     fn take_outside(
@@ -228,6 +161,51 @@ impl Reading {
     }
 }
 
+impl LineReader for Reading {
+    ghost use Rattle.batch_core.specs.declared.command.Command.{Command};
+    ghost use Rattle.batch_script.specs.Grammar.{batch_printing};
+    ghost use Rattle.batch_script.specs.Reading.{HasRead, plain_items};
+    ghost use Rattle.batch_script.specs.ReadingLaws.{batches_have_parts, begins_script};
+
+    type Script = Script;
+
+    ghost body = { List (Command ℕ) };
+
+    ghost printing = { batch_printing };
+
+    ghost has_parts = { batches_have_parts };
+
+    ghost items_of = { λ script. plain_items script.items.items };
+
+    ghost has_read = { HasRead };
+
+    ghost begins_script = { begins_script };
+
+    fn start(alloc: Global) -> Reading {
+        Reading {
+            items: TryVec::new(alloc),
+            begun: None,
+        }
+    }
+
+    fn take(&mut self, alloc: Global, word: &[u8], numbers: Numbers) -> Result<(), LineRefusal> {
+        match &mut self.begun {
+            None => self.take_outside(alloc, word, numbers),
+            Some(commands) => match command_of(word, numbers) {
+                Some(command) => Ok(commands.push(command)?),
+                None => self.take_end(word, numbers),
+            },
+        }
+    }
+
+    fn finish(self) -> Option<Script> {
+        match self.begun {
+            None => Some(Script { items: self.items }),
+            Some(_) => None,
+        }
+    }
+}
+
 /// Reads a whole script, and returns its items.
 ///
 /// `Syntax` comes exactly if the input is no script, with the line of its fault. `Oom` says that there was no memory for the items.
@@ -236,23 +214,5 @@ pub fn parse(alloc: Global, input: &[u8]) -> Result<Script, RunError>
     ensures script { IfOk result (λ script. IsScriptOf input.now (plain_items script.items.items)) }
     ensures refusal { IfErr result (IsJustified input.now) }
 {
-    let mut reading = Reading::new(alloc);
-    let mut rest = input;
-    let mut line_number = 0;
-    while !rest.is_empty() {
-        line_number += 1;
-        rest = match reading.take_first_line(alloc, rest) {
-            Ok(later) => later,
-            Err(LineRefusal::Syntax) => return Err(RunError::Syntax { line: line_number }),
-            Err(LineRefusal::Oom) => return Err(RunError::Oom),
-        };
-    }
-    if reading.begun.is_some() {
-        return Err(RunError::Syntax {
-            line: line_number + 1,
-        });
-    }
-    Ok(Script {
-        items: reading.items,
-    })
+    read_script::<Reading>(alloc, input)
 }

@@ -2,7 +2,7 @@ use Rattle.std.proofs.Common.{refl, subst}
 use Rattle.std.specs.Prelude.{option_map}
 use Rattle.std.proofs.lemmas.Result.{on_ok_weaker}
 use Rattle.batch_script.specs.Reading.{AreRead, plain_items}
-use Rattle.batch_script.proofs.parser.Reading.take_parts.Goals as goal
+use Rattle.batch_script.proofs.parser.ReadingLineReader.take.Goals as goal
 
 pub returns-in-None-clause-ok : goal.returns-in-None-clause-ok
 returns-in-None-clause-ok c =

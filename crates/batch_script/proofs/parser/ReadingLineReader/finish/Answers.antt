@@ -1,0 +1,11 @@
+use Rattle.std.proofs.Common.{refl, sym, subst}
+use Rattle.std.specs.Prelude.{IsSome, option_map}
+use Rattle.batch_script.specs.Reading.{begun_in, plain_items}
+use Rattle.batch_script.proofs.ReadingFacts.{begun-IsScript}
+use Rattle.batch_script.proofs.parser.ReadingLineReader.finish.Goals as goal
+
+pub returns-in-Some-clause-none : goal.returns-in-Some-clause-none
+returns-in-Some-clause-none c = λ input was.
+    let self = c.args.self in
+    let some = subst (λ begun. IsSome (option_map (λ commands. commands.items) begun)) (sym c.in-Some.is) refl in
+    begun-IsScript (plain_items self.items.items) (begun_in self) input some was
