@@ -1,0 +1,8 @@
+pub mod CountFacts
+pub mod CourseFacts
+pub mod FrameFacts
+pub mod LineFacts
+pub mod NestFacts
+pub mod RefusedFacts
+pub mod RoomFacts
+pub mod ShapeFacts
