@@ -46,7 +46,7 @@ module _ {X : Type 0} where
   same_end Abort Commit same = absurd (cc)
   same_end Abort Abort same = refl
 
-  heads : (a b : NestLine X) (xs ys : List (NestLine X)) → a ∷ xs ≡ b ∷ ys → (a ≡ b) × (xs ≡ ys)
+  pub heads : (a b : NestLine X) (xs ys : List (NestLine X)) → a ∷ xs ≡ b ∷ ys → (a ≡ b) × (xs ≡ ys)
   heads a b xs ys same = (cc, cc)
 
   pub goes_on : (body : Body X) (rests : List (Rest X)) (command : Command X) (lines : List (NestLine X))

@@ -6,7 +6,6 @@ ghost use Rattle.batch_nest.specs.Applied.{OfBody, IsThrough, NestRefusedAtAnyEn
 
 use crate::nest::NestLine;
 use batch_core::{Refusal, Workspace};
-use std::alloc::Global;
 use wic_base::OutOfMemory;
 use wic_vec::TryVec;
 
@@ -72,6 +71,7 @@ impl<T: Drop> Levels<T> {
         ensures refused { IfErr result (λ r. OfBody lines.items (λ body.
             NestRefusedAtAnyEnd self.old.workspace.room self.old.workspace.contents body r.cause r.at)) }
         ensures at_from_one { IfErr result (λ r. 1 ≤ r.at) }
+        ensures at_within { IfErr result (λ r. r.at ≤ command_lines lines.items) }
         ensures back { undo_all self.new.workspace.records self.new.workspace.contents
             ≡ self.old.workspace.contents }
         ensures room { self.new.workspace.room ≡ self.old.workspace.room }

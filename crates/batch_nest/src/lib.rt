@@ -1,9 +1,13 @@
 //! Batches within batches.
 #![tactic(auto)]
 
+#[cfg(test)]
+mod callers;
+pub mod laws;
 mod levels;
 mod nest;
 mod space;
 
+pub use laws::{law_all_committed, law_inner_abort, law_without_inner};
 pub use nest::{Nest, NestLine};
 pub use space::NestSpace;

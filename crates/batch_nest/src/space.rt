@@ -7,11 +7,11 @@ ghost use Rattle.batch_core.specs.State.{no_contents};
 ghost use Rattle.batch_core.specs.Back.{Grows, back};
 ghost use Rattle.batch_core.specs.Course.{first_bad};
 ghost use Rattle.batch_core.specs.Workspace.{IsOom};
-ghost use Rattle.batch_nest.specs.Nest.{IsBalanced, nest_course};
+ghost use Rattle.batch_nest.specs.Nest.{IsBalanced, command_lines, nest_course};
 ghost use Rattle.batch_nest.specs.Applied.{OfBody, FitsNest, IsNestApplied};
 
 use crate::levels::{Levels, counts_of};
-use crate::nest::{Nest, NestLine};
+use crate::nest::Nest;
 use batch_core::{Cause, Done, End, Record, Refusal, ReserveRefusal, Workspace};
 use std::alloc::Global;
 use std::marker::Model;
@@ -144,6 +144,7 @@ impl<T: Drop> NestSpace<T> {
         ensures applied { OfBody nest.lines.items (λ body.
             IsNestApplied self.old body nest.end result self.new) }
         ensures at_from_one { IfErr result (λ r. ¬ IsOom r.cause → 1 ≤ r.at) }
+        ensures at_within { IfErr result (λ r. r.at ≤ command_lines nest.lines.items) }
         ensures never_oom_within { OfBody nest.lines.items (λ body.
             FitsNest self.old.room self.old.contents body → IfErr result (λ r. ¬ IsOom r.cause)) }
         ensures never_refused_within { OfBody nest.lines.items (λ body.

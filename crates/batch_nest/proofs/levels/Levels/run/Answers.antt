@@ -20,6 +20,7 @@ loop-line-init g c =
           c.requires.no_marks (gives.0 ∙ is);
       left = gives.1 ∙ ap length (sym gives.0);
       count = omega arith;
+      numbered = omega (arith, ap command_lines gives.0);
       marks = omega (arith, ap length c.requires.no_marks, ap begin_lines gives.0, c.requires.mark_room);
       mark_capacity = refl;
       room = refl;
@@ -59,6 +60,7 @@ loop-line-preserved-in_default g c =
           c.step.ensures.grows;
       left = omega (arith, l.invariant.left, steps.1, ap length steps.0);
       count = omega (arith, l.invariant.count, length-append l.yielded (c.in-Some.line ∷ []));
+      numbered = omega (arith, l.invariant.numbered, ap command_lines split);
       marks = omega (arith, l.invariant.marks, ap begin_lines split);
       mark_capacity = l.invariant.mark_capacity;
       room = c.step.ensures.room ∙ l.invariant.room;
@@ -78,6 +80,7 @@ loop-line-preserved-in-Begin g c =
           c.push_reserved.ensures.last c.mark-mark.ensures.mark;
       left = omega (arith, l.invariant.left, steps.1, ap length steps.0);
       count = omega (arith, l.invariant.count, length-append l.yielded (c.in-Some.line ∷ []));
+      numbered = omega (arith, l.invariant.numbered, ap command_lines split);
       marks = omega (
         arith,
         l.invariant.marks,
@@ -106,6 +109,7 @@ loop-line-preserved-in-Commit g c =
           (inside_at _ c.in-Some.line CommitLine rest steps.0 c.in-Commit.is (l.invariant.inside whole is)) popped.1;
       left = omega (arith, l.invariant.left, steps.1, ap length steps.0);
       count = omega (arith, l.invariant.count, length-append l.yielded (c.in-Some.line ∷ []));
+      numbered = omega (arith, l.invariant.numbered, ap command_lines split);
       marks = omega (
         arith,
         l.invariant.marks,
@@ -145,6 +149,7 @@ loop-line-preserved-in-Some-pop g c =
           c.back_to.ensures.contents c.back_to.ensures.records c.back_to.ensures.capacities;
       left = omega (arith, l.invariant.left, steps.1, ap length steps.0);
       count = omega (arith, l.invariant.count, length-append l.yielded (c.in-Some.line ∷ []));
+      numbered = omega (arith, l.invariant.numbered, ap command_lines split);
       marks = omega (
         arith,
         l.invariant.marks,
@@ -180,3 +185,9 @@ returns-clause-back g c =
     let l = c.loop-line in
     let balanced = c.requires.balanced in
     inside_undone c.args.self.now.workspace l.self.workspace l.self.marks.items l.at _ balanced.0 (l.invariant.inside balanced.0 balanced.1)
+
+pub returns-in-Err-clause-at_within : goal.returns-in-Err-clause-at_within
+returns-in-Err-clause-at_within g c =
+    let l = c.loop-line in
+    let split = c.in-Some.ensures.steps.0 ∙ ap (λ x. x ∷ into_iter_items c.next.new.self) c.in-Command.is in
+    omega (arith, l.invariant.numbered, ap command_lines split)
