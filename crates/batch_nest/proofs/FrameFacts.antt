@@ -62,7 +62,8 @@ module _ {X : Type 0} where
   }
 
   -- into an inner body
-  pub inward : (stands : List (Stand X)) (records : List (Record X)) (contents : Contents X) (inner : Body X) (ending : End) (later : Body X)
+  pub inward : (stands : List (Stand X)) (records : List (Record X)) (contents : Contents X) (inner : Body X) (ending : End)
+      (later : Body X)
       → preceded stands records (nest_course contents (then_inner inner ending later))
       ≡ close_one ending later contents records (preceded stands records (nest_course contents inner))
   inward stands records contents inner Commit later =
@@ -81,7 +82,8 @@ module _ {X : Type 0} where
       }
 
   -- out of an inner body that ends in commit: what it held and recorded stays
-  pub outward_kept : (stands : List (Stand X)) (records start : List (Record X)) (contents before : Contents X) (later : Body X) (ending : End)
+  pub outward_kept : (stands : List (Stand X)) (records start : List (Record X)) (contents before : Contents X) (later : Body X)
+      (ending : End)
       → ending ≡ Commit
       → close_one ending later before start (preceded stands records (nest_course contents done))
       ≡ preceded stands records (nest_course contents later)
@@ -90,7 +92,8 @@ module _ {X : Type 0} where
       ∙ (λ i. preceded (append-nil stands i) (append-nil records i) (nest_course contents later))
 
   -- out of an inner body that ends in abort: what was held and recorded at its start is back
-  pub outward_undone : (stands : List (Stand X)) (records start : List (Record X)) (contents before : Contents X) (later : Body X) (ending : End)
+  pub outward_undone : (stands : List (Stand X)) (records start : List (Record X)) (contents before : Contents X) (later : Body X)
+      (ending : End)
       → ending ≡ Abort
       → close_one ending later before start (preceded stands records (nest_course contents done))
       ≡ preceded stands start (nest_course before later)
@@ -135,7 +138,8 @@ module _ {X : Type 0} where
   }
 
   -- what goes back to where one was goes back to all that one could go back to
-  pub stacked_from : (first : Contents X) (frames : List (Frame X)) (c : Contents X) (r : List (Record X)) (d : Contents X) (s : List (Record X))
+  pub stacked_from : (first : Contents X) (frames : List (Frame X)) (c : Contents X) (r : List (Record X)) (d : Contents X)
+      (s : List (Record X))
       → GoesBack c r d s → IsStacked first frames d s → IsStacked first frames c r
   stacked_from first [] c r d s near far = back_twice c r d s first [] near far
   stacked_from first (frame ∷ frames) c r d s near far = (back_twice c r d s frame.contents frame.records near far.0, far.1)

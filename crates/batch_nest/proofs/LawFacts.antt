@@ -1,11 +1,9 @@
 -- Nests and batches of the same course.
 use Rattle.std.proofs.Common.{◌≡◌, List, [], ◌∷◌, ◌++◌, refl, sym, ap, ◌∙◌, append_assoc}
-use Rattle.std.specs.Prelude.{map}
 use Rattle.batch_core.specs.State.{Contents}
 use Rattle.batch_core.specs.Command.{effect_of, records_of}
-use Rattle.batch_core.specs.Course.{Course, led_by, batch_course}
+use Rattle.batch_core.specs.Course.{led_by, batch_course}
 use Rattle.batch_core.specs.declared.command.Command.{Command}
-use Rattle.batch_core.specs.declared.command.End.{End}
 use Rattle.batch_core.specs.declared.command.End.TheVariants.{Commit, Abort}
 use Rattle.batch_nest.specs.declared.nest.NestLine.{NestLine}
 use Rattle.batch_nest.specs.declared.nest.NestLine.TheVariants.{Command as CommandLine, Begin as BeginLine}
@@ -15,7 +13,7 @@ use Rattle.batch_nest.specs.Nest.{Body, done, then_command, then_inner, body_lin
 use Rattle.batch_nest.proofs.ShapeFacts.{heads}
 
 module _ {X : Type 0} where
-  same_command : (a b : Command X) → ◌≡◌ {A = NestLine X} (CommandLine a) (CommandLine b) → a ≡ b
+  pub same_command : (a b : Command X) → ◌≡◌ {A = NestLine X} (CommandLine a) (CommandLine b) → a ≡ b
   same_command a b same = cc
 
   -- a nest without inner lines has the course of the batch of its commands

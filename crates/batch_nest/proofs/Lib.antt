@@ -8,3 +8,4 @@ pub mod OutcomeFacts
 pub mod RefusedFacts
 pub mod RoomFacts
 pub mod ShapeFacts
+pub mod TellFacts

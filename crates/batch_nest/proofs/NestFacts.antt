@@ -20,7 +20,8 @@ use Rattle.batch_nest.specs.declared.nest.NestLine.TheVariants.{Commit as Commit
 use Rattle.batch_nest.specs.Nest.{Body, done, end_line, body_lines, nest_course}
 use Rattle.batch_nest.specs.Applied.{IsThrough}
 use Rattle.batch_nest.proofs.LineFacts.{rest_lines}
-use Rattle.batch_nest.proofs.FrameFacts.{Frame, rests_of, marks_of, preceded, close_all, close_one, further, inward, outward_kept, outward_undone}
+use Rattle.batch_nest.proofs.FrameFacts.{Frame, rests_of, marks_of, preceded, close_all, close_one, further, inward, outward_kept}
+use Rattle.batch_nest.proofs.FrameFacts.{outward_undone}
 use Rattle.batch_nest.proofs.FrameFacts.{GoesBack, IsStacked, stacked_from, stacked_undone, here, done_goes_back, back_at}
 use Rattle.batch_nest.proofs.CountFacts.{IsCounted, counted_first, counted_command, counted_fewer}
 use Rattle.batch_nest.proofs.ShapeFacts.{goes_on, goes_in, goes_out, goes_nowhere}
@@ -93,8 +94,8 @@ module _ {X : Type 0} where
     pub counted : IsCounted first now stands
 
   -- the same, once it is known which line comes first
-  pub inside_at : {first now : Workspace X} {marked : List ℕ} {count : ℕ} {whole : Body X} (left : List (NestLine X)) (line known : NestLine X)
-      (rest : List (NestLine X)) → left ≡ line ∷ rest → line ≡ known → IsInside first now marked count left whole
+  pub inside_at : {first now : Workspace X} {marked : List ℕ} {count : ℕ} {whole : Body X} (left : List (NestLine X))
+      (line known : NestLine X) (rest : List (NestLine X)) → left ≡ line ∷ rest → line ≡ known → IsInside first now marked count left whole
       → IsInside first now marked count (known ∷ rest) whole
   inside_at {first} {now} {marked} {count} {whole} left line known rest split is inside =
       subst (λ l. IsInside first now marked count l whole) (split ∙ ap (λ x. x ∷ rest) is) inside
@@ -174,7 +175,8 @@ module _ {X : Type 0} where
     pub ending : frame.rest.ending ≡ end
     pub lines : left ≡ rest_lines frame.rest.later (rests_of others)
     pub course : nest_course first.contents whole ≡ close_all others
-        (close_one frame.rest.ending frame.rest.later frame.contents frame.records (preceded stands now.records (nest_course now.contents done)))
+        (close_one frame.rest.ending frame.rest.later frame.contents frame.records
+        (preceded stands now.records (nest_course now.contents done)))
     pub marks : marked ≡ marks_of others ++ length frame.records ∷ []
     pub near : GoesBack now.contents now.records frame.contents frame.records
     pub far : IsStacked first.contents others frame.contents frame.records
@@ -286,7 +288,8 @@ module _ {X : Type 0} where
       → IsThrough first now whole
   inside_last first now marked count whole inside =
       let shape = goes_nowhere inside.body inside.frames inside.lines in
-      let course = inside.course ∙ (λ i. close_all (shape.1 i) (preceded inside.stands now.records (nest_course now.contents (shape.0 i)))) in
+      let course = inside.course
+      ∙ (λ i. close_all (shape.1 i) (preceded inside.stands now.records (nest_course now.contents (shape.0 i)))) in
       record {
         not_bad = ap (λ k. first_bad k.stands) course ∙ ap first_bad (append-nil inside.stands) ∙ inside.good;
         records = sym (ap (λ k. k.records) course ∙ append-nil now.records);

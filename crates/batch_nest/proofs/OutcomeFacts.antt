@@ -1,5 +1,5 @@
 -- What the result of a committed nest tells.
-use Rattle.std.proofs.Common.{◌≡◌, ℕ, List, Option, None, Some, Result, OnOk, OnErr, ◌++◌, refl, sym, ap, ◌∙◌}
+use Rattle.std.proofs.Common.{◌≡◌, List, Option, None, Some, Result, OnOk, OnErr, ◌++◌, sym, ap}
 use Rattle.std.proofs.lemmas.List.{append-nil}
 use Rattle.batch_core.specs.Command.{effect_of, records_of}
 use Rattle.batch_core.specs.declared.command.Command.{Command}
@@ -8,7 +8,7 @@ use Rattle.batch_nest.specs.Savepoint.{around_savepoint}
 use Rattle.std.specs.declared.result.Result.TheVariants.{Ok, Err}
 use Rattle.batch_core.specs.State.{Contents}
 use Rattle.batch_core.specs.Batch.{BadCommand, Outcome, committed, aborted, refused, unless_bad}
-use Rattle.batch_core.specs.Course.{Course, first_bad, ended, outcome_of}
+use Rattle.batch_core.specs.Course.{Course, first_bad, ended}
 use Rattle.batch_core.specs.Workspace.{Workspace}
 use Rattle.batch_core.specs.declared.answer.Done.{Done}
 use Rattle.batch_core.specs.declared.answer.Done.TheVariants.{Committed, Aborted}

@@ -1,10 +1,13 @@
 -- Nests that fit the room, and nests that are short of it.
-use Rattle.std.proofs.Common.{◌≡◌, ℕ, zero, suc, ◌+◌, ◌<◌, List, [], ◌∷◌, length, take, None, sym, ap, subst, ◌∙◌, arith}
+use Rattle.std.proofs.Common.{◌≤◌, ◌≡◌, ℕ, zero, suc, ◌+◌, ◌<◌, List, [], ◌∷◌, length, take, None, sym, ap, subst, ◌∙◌, arith}
 use Rattle.std.specs.Prelude.{max}
 use Rattle.batch_core.specs.State.{Contents}
 use Rattle.batch_core.specs.Command.{cause_of}
 use Rattle.batch_core.specs.Batch.{BadCommand, Outcome, committed, aborted, refused, unless_bad}
-use Rattle.batch_core.specs.Room.{cut_by}
+use Rattle.batch_core.specs.Room.{cut_by, Passes}
+use Rattle.batch_core.specs.declared.command.Command.{Command}
+use Rattle.batch_core.specs.declared.command.Command.TheVariants.{Push, Pop, Set, Alloc, Free, Put, Insert, Remove, Truncate}
+use Rattle.batch_nest.specs.Laws.{FitsLargerRooms}
 use Rattle.batch_core.specs.Course.{Stand, Course, first_bad, ended, outcome_of, StaysWithin}
 use Rattle.batch_core.specs.Workspace.{IsOom}
 use Rattle.batch_core.specs.declared.command.Cause.{Cause}
@@ -77,3 +80,37 @@ module _ {X : Type 0} where
   refused_kept room other c d body ending cause at same_room same was =
       subst (λ r. NestRefusedFor r d body ending cause at) same_room
       (subst (λ k. NestRefusedFor room k body ending cause at) same was)
+
+  -- what passes the larger room passes the smaller one
+  passes_smaller : (room larger count : ℕ) (c : Contents X) (command : Command X) → room ≤ larger → Passes larger count c command
+      → Passes room count c command
+  passes_smaller room larger count c (Push value) more passes = omega arith
+  passes_smaller room larger count c Pop more passes = passes
+  passes_smaller room larger count c (Set at value) more passes = passes
+  passes_smaller room larger count c (Alloc value) more passes = omega arith
+  passes_smaller room larger count c (Free id) more passes = passes
+  passes_smaller room larger count c (Put id value) more passes = passes
+  passes_smaller room larger count c (Insert number) more passes = omega arith
+  passes_smaller room larger count c (Remove number) more passes = passes
+  passes_smaller room larger count c (Truncate kept) more passes = omega arith
+
+  within_larger : (room larger count : ℕ) (stands : List (Stand X)) → room ≤ larger → StaysWithin room count stands
+      → StaysWithin larger count stands
+  within_larger room larger count [] more within = tt
+  within_larger room larger count (stand ∷ stands) more within =
+      if_none_more (cause_of stand.contents stand.command) _ _
+      (λ here. (
+        λ passes. here.0 (passes_smaller room larger count stand.contents stand.command more passes),
+        within_larger room larger (count + cut_by stand.contents stand.command) stands more here.1,
+      )) within
+
+  -- a nest that fits a room fits each larger room
+  pub fits_larger : FitsLargerRooms X
+  fits_larger room larger c body more fits =
+      let stands = (nest_course c body).stands in record {
+        course = record {
+          few = omega (arith, fits.course.few, more);
+          within = within_larger room larger (length stands) stands more fits.course.within;
+        };
+        inner = omega (arith, fits.inner, more);
+      }

@@ -40,7 +40,7 @@ module _ {X : Type 0} where
   begin_not_end Commit same = cc
   begin_not_end Abort same = cc
 
-  same_end : (a b : End) → ◌≡◌ {A = NestLine X} (end_line a) (end_line b) → a ≡ b
+  pub same_end : (a b : End) → ◌≡◌ {A = NestLine X} (end_line a) (end_line b) → a ≡ b
   same_end Commit Commit same = refl
   same_end Commit Abort same = absurd (cc)
   same_end Abort Commit same = absurd (cc)
@@ -55,7 +55,8 @@ module _ {X : Type 0} where
   goes_on done (rest ∷ rests) command lines is =
       absurd (command_not_end rest.ending command (heads _ (end_line rest.ending) lines _ is).0)
   goes_on (then_command other later) rests command lines is =
-      let same = heads (CommandLine command) (CommandLine other) lines (rest_lines later rests) (is ∙ sym (after_command other later rests)) in
+      let same = heads (CommandLine command) (CommandLine other) lines (rest_lines later rests)
+      (is ∙ sym (after_command other later rests)) in
       let called : command ≡ other = (let first = same.0 in cc) in
       record { later = later; body = ap (λ k. then_command k later) (sym called); lines = same.1 }
   goes_on (then_inner inner ending later) rests command lines is =

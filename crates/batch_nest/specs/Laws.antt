@@ -1,5 +1,5 @@
--- Laws that tie nests to batches.
-use Rattle.std.specs.Prelude.{⊤, ◌≡◌, List, [], ◌∷◌, map}
+-- Laws of nests: what ties them to batches, what their lines tell, and which rooms they fit.
+use Rattle.std.specs.Prelude.{⊤, ◌≡◌, ℕ, ◌≤◌, List, [], ◌∷◌, map}
 use Rattle.batch_core.specs.State.{Contents}
 use Rattle.batch_core.specs.Course.{batch_course}
 use Rattle.batch_core.specs.declared.command.Command.{Command}
@@ -8,6 +8,7 @@ use Rattle.batch_nest.specs.declared.nest.NestLine.{NestLine}
 use Rattle.batch_nest.specs.declared.nest.NestLine.TheVariants.{Command as CommandLine, Begin as BeginLine}
 use Rattle.batch_nest.specs.declared.nest.NestLine.TheVariants.{Commit as CommitLine, Abort as AbortLine}
 use Rattle.batch_nest.specs.Nest.{Body, done, then_command, then_inner, body_lines, nest_course}
+use Rattle.batch_nest.specs.Applied.{FitsNest}
 
 module _ {T : Type 0} where
   -- the lines of these commands, and no other ones
@@ -49,3 +50,13 @@ InnerAbortRestores T =
     (contents : Contents T) (inner later : Body T)
     → ((nest_course contents (then_inner inner Abort later)).after ≡ (nest_course contents later).after)
     × ((nest_course contents (then_inner inner Abort later)).records ≡ (nest_course contents later).records)
+
+-- lines are those of one body alone
+abbrev pub LinesTellTheBody : Type 0 → Type 0
+LinesTellTheBody T = (body other : Body T) → body_lines body ≡ body_lines other → body ≡ other
+
+-- a nest that fits a room fits every larger one
+abbrev pub FitsLargerRooms : Type 0 → Type 0
+FitsLargerRooms T =
+    (room larger : ℕ) (contents : Contents T) (body : Body T)
+    → room ≤ larger → FitsNest room contents body → FitsNest larger contents body

@@ -1,12 +1,15 @@
 //! Callers of nests, proved from the contracts alone.
-ghost use Rattle.std.specs.Prelude.{◌≡◌, ◌++◌, IfOk, OnOk, OnErr};
+ghost use Rattle.std.specs.Prelude.{◌≡◌, ◌++◌, IfOk, IfErr, OnOk, OnErr};
 ghost use Rattle.batch_core.specs.Command.{effect_of, records_of};
-ghost use Rattle.batch_nest.specs.Nest.{body_lines};
+ghost use Rattle.batch_core.specs.Workspace.{IsOom};
+ghost use Rattle.batch_nest.specs.Applied.{OfBody, FitsNest};
+ghost use Rattle.batch_nest.specs.Nest.{IsBalanced, body_lines};
 ghost use Rattle.batch_nest.specs.Savepoint.{around_savepoint};
 
+use crate::laws::law_larger_room;
 use crate::nest::{Nest, NestLine};
 use crate::space::NestSpace;
-use batch_core::{Cause, Command, Done, End, Refusal};
+use batch_core::{Cause, Command, Done, End, Refusal, ReserveRefusal};
 use std::alloc::Global;
 use wic_base::OutOfMemory;
 use wic_vec::TryVec;
@@ -18,7 +21,8 @@ fn savepoint_lines<T: Drop>(
     tried: Command<T>,
     last: Command<T>,
 ) -> Result<TryVec<NestLine<T>>, OutOfMemory>
-    ensures lines { IfOk result (λ lines. lines.items ≡ body_lines (around_savepoint kept tried last)) }
+    ensures lines { IfOk result (λ lines.
+        lines.items ≡ body_lines (around_savepoint kept tried last)) }
 {
     let mut lines = TryVec::with_capacity(alloc, 5)?;
     lines.push(NestLine::Command(kept))?;
@@ -57,4 +61,19 @@ pub fn go_on_from_savepoint<T: Drop>(
         lines,
         end: End::Commit,
     })
+}
+
+// Makes room for n, and then does a nest that fits it: memory doesn't refuse it.
+pub fn reserve_and_apply<T: Drop>(
+    space: &mut NestSpace<T>,
+    n: u64,
+    nest: Nest<T>,
+) -> Result<Result<Done, Refusal>, ReserveRefusal>
+    requires balanced { IsBalanced nest.lines.items }
+    requires fits { OfBody nest.lines.items (FitsNest n space.old.contents) }
+    ensures never_oom { IfOk result (λ outcome. IfErr outcome (λ r. ¬ IsOom r.cause)) }
+{
+    space.reserve(n)?;
+    law_larger_room::<T>();
+    Ok(space.apply(nest))
 }

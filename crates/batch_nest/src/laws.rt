@@ -1,6 +1,6 @@
 //! Laws over the definitions that the contracts of `NestSpace` cite. The calls of this module do nothing.
 ghost use Rattle.batch_nest.specs.Laws.{WithoutInnerIsBatch, AllCommittedIsPlain};
-ghost use Rattle.batch_nest.specs.Laws.{InnerAbortRestores};
+ghost use Rattle.batch_nest.specs.Laws.{InnerAbortRestores, LinesTellTheBody, FitsLargerRooms};
 
 /// A nest without inner batches has the course of the batch of its commands: the first bad command, the records, the
 /// contents in the end, and what passes the room are the same.
@@ -18,4 +18,14 @@ pub fn law_all_committed<T>()
 /// as they were at its own start, and no records.
 pub fn law_inner_abort<T>()
     ensures { InnerAbortRestores T }
+{}
+
+/// The lines of a nest tell its body: what `apply` says of each body that has these lines it says of one.
+pub fn law_one_body<T>()
+    ensures { LinesTellTheBody T }
+{}
+
+/// A nest that fits a room fits every larger one, so that what was planned for one reservation may run within a greater one.
+pub fn law_larger_room<T>()
+    ensures { FitsLargerRooms T }
 {}

@@ -49,7 +49,8 @@ impl<T: Drop> Levels<T> {
         ensures grows { Grows self.old.workspace.capacities self.new.workspace.capacities }
         ensures marks_grow { self.old.marks.capacity ≤ self.new.marks.capacity }
         ensures no_marks { OnOk result (self.new.marks.items ≡ []) }
-        ensures record_room { OnOk result (counts.commands ≤ self.new.workspace.capacities.records) }
+        ensures record_room { OnOk result
+            (counts.commands ≤ self.new.workspace.capacities.records) }
         ensures mark_room { OnOk result (counts.begins ≤ self.new.marks.capacity) }
         ensures refused_only_beyond { self.old.workspace.room ≤ self.old.marks.capacity
             → OnErr result (self.old.workspace.room < max counts.commands counts.begins) }

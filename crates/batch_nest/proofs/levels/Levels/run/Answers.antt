@@ -44,7 +44,8 @@ returns-in-Err-clause-back g c =
     let kept = c.in-Err.ensures.refusal_leaves in
     let balanced = c.requires.balanced in
     (λ i. undo_all (kept.records i) (kept.contents i))
-    ∙ inside_undone c.args.self.now.workspace l.self.workspace l.self.marks.items l.at _ balanced.0 (l.invariant.inside balanced.0 balanced.1)
+    ∙ inside_undone c.args.self.now.workspace l.self.workspace l.self.marks.items l.at _ balanced.0
+    (l.invariant.inside balanced.0 balanced.1)
 
 pub loop-line-preserved-in_default : goal.loop-line-preserved-in_default
 loop-line-preserved-in_default g c =
@@ -128,7 +129,8 @@ back_to-requires g c =
     let l = c.loop-line in
     let rest = into_iter_items c.next.new.self in
     let balanced = c.requires.balanced in record {
-      mark = mark_within c.args.self.now.workspace l.self.workspace l.self.marks.items c.pop-in-Abort.new.self.items l.at c.in-Some-pop.start rest
+      mark = mark_within c.args.self.now.workspace l.self.workspace l.self.marks.items c.pop-in-Abort.new.self.items l.at
+          c.in-Some-pop.start rest
           balanced.0
           (inside_at _ c.in-Some.line AbortLine rest c.in-Some.ensures.steps.0 c.in-Abort.is (l.invariant.inside balanced.0 balanced.1))
           c.in-Some-pop.ensures.last;
@@ -168,7 +170,8 @@ loop-line-preserved g c =
     let l = c.loop-line in
     let rest = into_iter_items c.next.new.self in
     let balanced = c.requires.balanced in
-    let here = inside_at _ c.in-Some.line AbortLine rest c.in-Some.ensures.steps.0 c.in-Abort.is (l.invariant.inside balanced.0 balanced.1) in
+    let here = inside_at _ c.in-Some.line AbortLine rest c.in-Some.ensures.steps.0 c.in-Abort.is
+    (l.invariant.inside balanced.0 balanced.1) in
     absurd (none_found c.pop-in-Abort.result l.self.marks.items c.in_default-pop.is c.pop-in-Abort.ensures.found
     (mark_for_end c.args.self.now.workspace l.self.workspace l.self.marks.items l.at rest balanced.0 Abort here))
 
