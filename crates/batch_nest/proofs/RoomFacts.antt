@@ -1,6 +1,6 @@
 -- Nests that fit the room, and nests that are short of it.
-use Rattle.std.proofs.Common.{◌≤◌, ◌≡◌, ℕ, zero, suc, ◌+◌, ◌<◌, List, [], ◌∷◌, length, take, None, sym, ap, subst, ◌∙◌, arith}
-use Rattle.std.specs.Prelude.{max}
+use Rattle.std.proofs.Common.{◌≤◌, ◌≡◌, ℕ, zero, suc, ◌+◌, ◌<◌, List, [], ◌∷◌, length, take, Option, None, Some, sym, ap, subst, ◌∙◌, arith}
+use Rattle.std.specs.Prelude.{max, IfNone}
 use Rattle.batch_core.specs.State.{Contents}
 use Rattle.batch_core.specs.Command.{cause_of}
 use Rattle.batch_core.specs.Batch.{BadCommand, Outcome, committed, aborted, refused, unless_bad}
@@ -14,11 +14,15 @@ use Rattle.batch_core.specs.declared.command.Cause.{Cause}
 use Rattle.batch_core.specs.declared.command.Cause.TheVariants.{Empty, Position, Vacant, Full, TooLarge, Oom}
 use Rattle.batch_core.specs.declared.command.End.{End}
 use Rattle.batch_core.specs.declared.command.End.TheVariants.{Commit, Abort}
-use Rattle.batch_core.proofs.RunFacts.{if_none_more}
 use Rattle.batch_nest.specs.declared.nest.NestLine.{NestLine}
 use Rattle.batch_nest.specs.Nest.{Body, body_lines, command_lines, begin_lines, nest_course}
 use Rattle.batch_nest.specs.Applied.{FitsNest, IsNestShort, NestRefusedFor}
 use Rattle.batch_nest.proofs.CourseFacts.{count_stands}
+
+-- if P gives Q, and P holds if there is no cause, Q holds if there is no cause
+if_none_more : (o : Option Cause) (P Q : Type 0) → (P → Q) → IfNone o P → IfNone o Q
+if_none_more None P Q more here = more here
+if_none_more (Some cause) P Q more here = tt
 
 module _ {X : Type 0} where
   -- a nest for which there is no room for records or marks has more commands or more inner bodies than the room
