@@ -1,4 +1,4 @@
-use Rattle.std.proofs.Common.{◌≡◌, ◌∙◌}
+use Rattle.std.proofs.Common.{◌∙◌}
 use Rattle.batch_core.specs.declared.command.End.TheVariants.{Commit}
 use Rattle.batch_nest.specs.Savepoint.{around_savepoint}
 use Rattle.batch_nest.proofs.OutcomeFacts.{accepted_commit, refusal_leaves, ok_more, savepoint_records}
