@@ -1,58 +1,16 @@
 -- What is counted against the room, and that the records stay below it.
-use Rattle.std.proofs.Common.{◌≡◌, ℕ, ◌+◌, ◌<◌, ◌≤◌, List, [], ◌∷◌, ◌++◌, length, Option, None, Some, sym, ap}
+use Rattle.std.proofs.Common.{◌≡◌, ℕ, ◌+◌, ◌≤◌, List, [], ◌∷◌, ◌++◌, length, None, sym, ap}
 use Rattle.std.proofs.Common.{subst, arith, append_assoc, length-append}
-use Rattle.std.specs.Prelude.{IfNone, slice_get}
-use Rattle.std.specs.FinMap.{get}
-use Rattle.batch_core.specs.State.{Contents}
-use Rattle.batch_core.specs.Command.{made_of, last_value, cause_of, records_of}
+use Rattle.batch_core.specs.Command.{cause_of, records_of}
 use Rattle.batch_core.specs.Back.{Grows}
 use Rattle.batch_core.specs.Room.{cut_by, Passes, StaysWithin}
 use Rattle.batch_core.specs.Course.{Stand}
 use Rattle.batch_core.specs.Workspace.{Workspace, IsReady, IsDone}
-use Rattle.batch_core.specs.declared.command.Cause.{Cause}
 use Rattle.batch_core.specs.declared.command.Command.{Command}
-use Rattle.batch_core.specs.declared.command.Command.TheVariants.{Push, Pop, Set, Alloc, Free, Put, Insert, Remove, Truncate}
-use Rattle.batch_core.specs.declared.record.Record.{Record}
-use Rattle.batch_core.specs.declared.record.Record.TheVariants.{Popped, Replaced, Freed, Put as Overwritten}
-use Rattle.batch_core.proofs.BackFacts.{count_cuts}
-
--- what is asked if there is no cause holds if there is none
-pub if_none : (o : Option Cause) (P : Type 0) → o ≡ None → IfNone o P → P
-if_none o P none here = subst (λ x. IfNone x P) none here
-
-not_beyond : (a b : ℕ) → (¬ (a < b)) → b ≤ a
-not_beyond a b stays = omega arith
+use Rattle.batch_core.proofs.CourseFacts.{if_none}
+use Rattle.batch_core.proofs.RunFacts.{count_records, count_stays}
 
 module _ {X : Type 0} where
-  -- what is counted for the records stays within their capacity
-  count_stays : (s : Workspace X) (command : Command X) (count : ℕ) → IsReady s → (¬ Passes s.room count s.contents command)
-      → count ≤ s.capacities.records → count + cut_by s.contents command ≤ s.capacities.records
-  count_stays s (Push value) count ready stays room = omega arith
-  count_stays s Pop count ready stays room = omega arith
-  count_stays s (Set at value) count ready stays room = omega arith
-  count_stays s (Alloc value) count ready stays room = omega arith
-  count_stays s (Free id) count ready stays room = omega arith
-  count_stays s (Put id value) count ready stays room = omega arith
-  count_stays s (Insert number) count ready stays room = omega arith
-  count_stays s (Remove number) count ready stays room = omega arith
-  count_stays s (Truncate kept) count ready stays room = omega (arith, not_beyond s.room _ stays, ready.records)
-
-  count_made : (o : Option X) (made : X → Record X) → length (made_of o made) ≤ 1
-  count_made None made = omega arith
-  count_made (Some old) made = omega arith
-
-  -- a command leaves a record, and one more for each value that it cuts off
-  count_records : (c : Contents X) (command : Command X) → length (records_of c command) ≤ cut_by c command + 1
-  count_records c (Push value) = omega arith
-  count_records c Pop = omega (arith, count_made (last_value c.list) Popped)
-  count_records c (Set at value) = omega (arith, count_made (slice_get c.list at) (Replaced at))
-  count_records c (Alloc value) = omega arith
-  count_records c (Free id) = omega (arith, count_made (get c.live id) (Freed id))
-  count_records c (Put id value) = omega (arith, count_made (get c.live id) (Overwritten id))
-  count_records c (Insert number) = omega arith
-  count_records c (Remove number) = omega arith
-  count_records c (Truncate kept) = omega (arith, count_cuts c kept)
-
   -- If commands and what comes after them stay within the room by a count of all commands, what comes after stays within it by a
   -- count that is enough for the records so far and the commands that come, and at most their capacity.
   abbrev pub IsCounted : Workspace X → Workspace X → List (Stand X) → Type 0

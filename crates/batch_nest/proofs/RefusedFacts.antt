@@ -18,7 +18,7 @@ use Rattle.batch_nest.specs.declared.nest.NestLine.{NestLine}
 use Rattle.batch_nest.specs.declared.nest.NestLine.TheVariants.{Command as CommandLine}
 use Rattle.batch_nest.specs.Nest.{Body, nest_course}
 use Rattle.batch_nest.specs.Applied.{IsNestShort, NestRefusedFor}
-use Rattle.batch_nest.proofs.CountFacts.{if_none}
+use Rattle.batch_core.proofs.CourseFacts.{if_none}
 use Rattle.batch_nest.proofs.FrameFacts.{rests_of, preceded, close_all, stands_first}
 use Rattle.batch_nest.proofs.NestFacts.{IsInside, bad_after, good_after}
 use Rattle.batch_nest.proofs.ShapeFacts.{goes_on}

@@ -70,7 +70,8 @@ impl<T: Drop> Levels<T> {
         ensures through { OnOk result
             (OfBody lines.items (IsThrough self.old.workspace self.new.workspace)) }
         ensures refused { IfErr result (λ r. OfBody lines.items (λ body.
-            NestRefusedAtAnyEnd self.old.workspace.room self.old.workspace.contents body r.cause r.at)) }
+            NestRefusedAtAnyEnd self.old.workspace.room self.old.workspace.contents body
+            r.cause r.at)) }
         ensures at_from_one { IfErr result (λ r. 1 ≤ r.at) }
         ensures at_within { IfErr result (λ r. r.at ≤ command_lines lines.items) }
         ensures back { undo_all self.new.workspace.records self.new.workspace.contents
