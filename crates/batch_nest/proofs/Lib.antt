@@ -5,7 +5,9 @@ pub mod LawFacts
 pub mod LineFacts
 pub mod NestFacts
 pub mod OutcomeFacts
+pub mod PrintFacts
 pub mod RefusedFacts
 pub mod RoomFacts
+pub mod Rows
 pub mod ShapeFacts
 pub mod TellFacts

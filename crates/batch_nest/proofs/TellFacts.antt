@@ -14,19 +14,20 @@ use Rattle.batch_nest.proofs.ShapeFacts.{heads, same_end}
 
 module _ {X : Type 0} where
   -- no more of a body stands here: there is no line, or its end
-  abbrev EndsHere : List (NestLine X) → Type 0
+  abbrev pub EndsHere : List (NestLine X) → Type 0
   EndsHere [] = ⊤
   EndsHere (CommandLine command ∷ lines) = ⊥
   EndsHere (BeginLine ∷ lines) = ⊥
   EndsHere (CommitLine ∷ lines) = ⊤
   EndsHere (AbortLine ∷ lines) = ⊤
 
-  ends_at : (ending : End) (lines : List (NestLine X)) → EndsHere (end_line ending ∷ lines)
+  -- an end of a body does
+  pub ends_at : (ending : End) (lines : List (NestLine X)) → EndsHere (end_line ending ∷ lines)
   ends_at Commit lines = tt
   ends_at Abort lines = tt
 
   -- the lines of two bodies, each up to its end, tell the bodies and what follows them
-  tells : (a b : Body X) (x y : List (NestLine X)) → EndsHere x → EndsHere y → body_lines a ++ x ≡ body_lines b ++ y → (a ≡ b) × (x ≡ y)
+  pub tells : (a b : Body X) (x y : List (NestLine X)) → EndsHere x → EndsHere y → body_lines a ++ x ≡ body_lines b ++ y → (a ≡ b) × (x ≡ y)
   tells done done x y end other same = (refl, same)
   tells done (then_command command later) x y end other same = absurd (subst EndsHere same end)
   tells done (then_inner inner ending later) x y end other same = absurd (subst EndsHere same end)

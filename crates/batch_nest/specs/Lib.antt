@@ -1,5 +1,7 @@
--- Batches within batches: bodies, what they come to, and what the results of a nest say.
+-- Batches within batches: bodies, what they come to, what the results of a nest say, and scripts of nests.
 pub mod Applied
 pub mod Laws
 pub mod Nest
+pub mod Program
 pub mod Savepoint
+pub mod Script

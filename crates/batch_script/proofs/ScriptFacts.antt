@@ -60,7 +60,7 @@ no_end_word (Remove number) = refl
 no_end_word (Truncate kept) = refl
 
 -- a command is known by its line
-same_command : (command other : Command ℕ) → IsValidCommand command → IsValidCommand other → command_line command ≡ command_line other
+pub same_command : (command other : Command ℕ) → IsValidCommand command → IsValidCommand other → command_line command ≡ command_line other
     → command ≡ other
 same_command command other valid sound same =
     let parts = same_line (word_of command) (word_of other) (numbers_of command) (numbers_of other) (one_word command)
@@ -98,7 +98,8 @@ apart line other differ same =
     let equal = itself (get_or other 0 0) in
     cc
 
-same_end : (ending other : End) → end_line ending ≡ end_line other → ending ≡ other
+-- an end is known by its line
+pub same_end : (ending other : End) → end_line ending ≡ end_line other → ending ≡ other
 same_end Commit Commit same = refl
 same_end Commit Abort same = absurd (apart _ _ refl same)
 same_end Abort Commit same = absurd (apart _ _ refl same)

@@ -107,6 +107,10 @@ module _ {B : Type 0} (printing : Printing B) where
   abbrev pub IsScriptOver : List ℕ → Type 0
   IsScriptOver input = (items : List (ItemOf B)) × IsScriptOfOver input items
 
+  -- the input is the script of items of which this holds
+  abbrev pub IsScriptOfSome : (List (ItemOf B) → Type 0) → List ℕ → Type 0
+  IsScriptOfSome Are input = (items : List (ItemOf B)) × Are items × IsScriptOfOver input items
+
   -- these lines begin the lines of a script
   abbrev pub IsOpenOver : List Line → Type 0
   IsOpenOver lines =

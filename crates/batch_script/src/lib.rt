@@ -66,7 +66,7 @@ pub use laws::{law_one_run, law_one_script, law_plain_run};
 pub use line::Numbers;
 pub use line_reader::{LineReader, LineRefusal, read_script};
 pub use memory_device::{CountSink, MemSink, MemSource, PlainSource};
-pub use parser::{parse, parse_command};
+pub use parser::{Start, command_of, end_of, parse, parse_command, start_of};
 pub use program::{Asked, INPUT_LIMIT, Program, ReadEnd, Status, read_input, serve, write_text};
 pub use reply::push_reply;
 pub use run_error::RunError;

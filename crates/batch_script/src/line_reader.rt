@@ -1,7 +1,7 @@
 //! Reads a script line by line, whatever the bodies of its items are.
 ghost use Rattle.std.specs.Prelude.{◌≡◌, ◌<◌, ℕ, List, [], length, IfSome, IfNone, IfOk, IfErr, OnOk, Err};
 ghost use Rattle.batch_script.specs.Grammar.{Line, Printing, lines_of};
-ghost use Rattle.batch_script.specs.Grammar.{IsOpenOver, IsScriptOfOver, IsScriptOver, IsFaultLineOver};
+ghost use Rattle.batch_script.specs.Grammar.{IsOpenOver, IsScriptOfSome, IsScriptOver, IsFaultLineOver};
 ghost use Rattle.batch_script.specs.Machine.{ItemOf};
 ghost use Rattle.batch_script.specs.Reading.{HasPartsThroughout, listed};
 ghost use Rattle.batch_script.specs.Reading.{TakesLineOver, RefusesLineOver, TakesFirstLine, RefusesFirstLine};
@@ -46,8 +46,8 @@ pub trait LineReader {
     /// Each line of a valid body is a word with up to two numbers.
     ghost has_parts: { HasPartsThroughout printing };
 
-    /// The items of what is made.
-    ghost items_of: { Self.Script → List (ItemOf body) };
+    /// What is made stands for these items.
+    ghost stands_for: { Self.Script → List (ItemOf body) → Type 0 };
 
     /// It has taken these lines.
     ghost has_read: { Self → List Line → Type 0 };
@@ -70,7 +70,7 @@ pub trait LineReader {
     /// The script, or `None` if what has begun has not ended.
     fn finish(self) -> Option<Self::Script>
         ensures script { IfSome result (λ script. (input : List ℕ) → has_read self (lines_of input)
-            → IsScriptOfOver printing input (items_of script)) }
+            → IsScriptOfSome printing (stands_for script) input) }
         ensures none { IfNone result ((input : List ℕ) → has_read self (lines_of input)
             → ¬ IsScriptOver printing input) };
 }
@@ -81,7 +81,7 @@ pub trait LineReader {
 /// made. Each byte is read once.
 pub fn read_script<R: LineReader + Drop>(alloc: Global, input: &[u8]) -> Result<R::Script, RunError>
     ensures script { IfOk result (λ script.
-        IsScriptOfOver R.printing input.now (R.items_of script)) }
+        IsScriptOfSome R.printing (R.stands_for script) input.now) }
     ensures refusal { IfErr result
         (IsJustifiedBy (IsScriptOver R.printing) (IsFaultLineOver R.printing) input.now) }
 {

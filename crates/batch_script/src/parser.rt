@@ -18,8 +18,8 @@ use batch_core::{Batch, Command, End};
 use std::alloc::Global;
 use wic_vec::TryVec;
 
-/// The command of this word and these numbers.
-fn command_of(word: &[u8], numbers: Numbers) -> Option<Command<u64>>
+/// The command of this word and these numbers, or `None` if there is none. It allocates nothing.
+pub fn command_of(word: &[u8], numbers: Numbers) -> Option<Command<u64>>
     ensures some { IfSome result (λ command. (word.now ≡ word_of command)
         × (listed numbers ≡ numbers_of command)) }
     ensures none { IfNone result ((command : Command ℕ) → numbers_of command ≡ listed numbers
@@ -68,8 +68,8 @@ fn is_one_line(line: &[u8]) -> bool
     !line.is_empty() && !line.contains(&b'\n')
 }
 
-/// The end of a batch that is this word, with no numbers.
-fn end_of(word: &[u8], numbers: Numbers) -> Option<End>
+/// The end of a batch that is this word, with no numbers, or `None` if there is none. It allocates nothing.
+pub fn end_of(word: &[u8], numbers: Numbers) -> Option<End>
     ensures some { IfSome result (λ ending. (word.now ≡ end_line ending) × (listed numbers ≡ [])) }
     ensures none { IfNone result ((ending : End) → listed numbers ≡ []
         → end_line ending ≢ word.now) }
@@ -86,14 +86,17 @@ fn end_of(word: &[u8], numbers: Numbers) -> Option<End>
 
 /// What a line outside a batch starts.
 #[derive(Drop)]
-pub(crate) enum Start {
+pub enum Start {
+    /// A reservation of so much room.
     Reserve(u64),
+    /// A show.
     Show,
+    /// A batch.
     Begin,
 }
 
-/// What this word and these numbers start outside a batch.
-fn start_of(word: &[u8], numbers: Numbers) -> Option<Start>
+/// What this word and these numbers start outside a batch, or `None` if they start nothing. It allocates nothing.
+pub fn start_of(word: &[u8], numbers: Numbers) -> Option<Start>
     ensures some { IfSome result (λ start. (word.now ≡ first_word (started start))
         × (listed numbers ≡ first_numbers (started start))) }
     ensures none { IfNone result ((item : PlainItem) → first_numbers item ≡ listed numbers
@@ -162,6 +165,7 @@ impl Reading {
 }
 
 impl LineReader for Reading {
+    ghost use Rattle.std.specs.Prelude.{◌≡◌};
     ghost use Rattle.batch_core.specs.declared.command.Command.{Command};
     ghost use Rattle.batch_script.specs.Grammar.{batch_printing};
     ghost use Rattle.batch_script.specs.Reading.{HasRead, plain_items};
@@ -175,7 +179,7 @@ impl LineReader for Reading {
 
     ghost has_parts = { batches_have_parts };
 
-    ghost items_of = { λ script. plain_items script.items.items };
+    ghost stands_for = { λ script items. items ≡ plain_items script.items.items };
 
     ghost has_read = { HasRead };
 

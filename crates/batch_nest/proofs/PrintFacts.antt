@@ -1,0 +1,141 @@
+-- Lines of nests are told apart by what they are printed as, and printed bodies tell what they are.
+use Rattle.std.proofs.Common.{◌≡◌, ◌⊎◌, ℕ, true, false, List, [], ◌∷◌, ◌++◌, map, refl, sym, ap, ◌∙◌, subst, inl, inr, append_assoc}
+use Rattle.std.proofs.lemmas.List.{map-append}
+use Rattle.std.specs.Prelude.{codes, bytes_eq}
+use Rattle.std.specs.List.{AllByRecursion}
+use Rattle.batch_core.specs.declared.command.Command.{Command}
+use Rattle.batch_core.specs.declared.command.Command.TheVariants.{Push, Pop, Set, Alloc, Free, Put, Insert, Remove, Truncate}
+use Rattle.batch_core.specs.declared.command.End.{End}
+use Rattle.batch_core.specs.declared.command.End.TheVariants.{Commit, Abort}
+use Rattle.batch_script.specs.Grammar.{Line, IsValidCommand, TellsBodies, command_line, ended_lines, numbers_of, word_of}
+use Rattle.batch_script.specs.Grammar.{end_line as written_end}
+use Rattle.batch_script.specs.ReadingLaws.{AllByRecursion-append, one_word}
+use Rattle.batch_script.proofs.LineFacts.{same_line}
+use Rattle.batch_script.proofs.ScriptFacts.{apart, command_is_no_end, same_command as same_written_command}
+use Rattle.batch_nest.specs.declared.nest.NestLine.{NestLine}
+use Rattle.batch_nest.specs.declared.nest.NestLine.TheVariants.{Command as CommandLine, Begin as BeginLine}
+use Rattle.batch_nest.specs.declared.nest.NestLine.TheVariants.{Commit as CommitLine, Abort as AbortLine}
+use Rattle.batch_nest.specs.Nest.{Body, body_lines, end_line}
+use Rattle.batch_nest.specs.Script.{IsValidLine, nest_printing, printed_line}
+use Rattle.batch_nest.proofs.ShapeFacts.{heads, same_end}
+use Rattle.batch_nest.proofs.TellFacts.{ends_at, tells}
+
+-- the word of a command begins no batch
+no_begin_word : (command : Command ℕ) → bytes_eq (word_of command) (codes "begin") ≡ false
+no_begin_word (Push value) = refl
+no_begin_word Pop = refl
+no_begin_word (Set at value) = refl
+no_begin_word (Alloc value) = refl
+no_begin_word (Free id) = refl
+no_begin_word (Put id value) = refl
+no_begin_word (Insert number) = refl
+no_begin_word (Remove number) = refl
+no_begin_word (Truncate kept) = refl
+
+begin_word : bytes_eq (codes "begin") (codes "begin") ≡ true
+begin_word = refl
+
+-- so the line of a command begins none
+command_is_no_begin : (command : Command ℕ) → IsValidCommand command → command_line command ≡ codes "begin" → ⊥
+command_is_no_begin command valid same =
+    let parts = same_line (word_of command) (codes "begin") (numbers_of command) [] (one_word command) refl valid tt same in
+    let differ = no_begin_word command in
+    let begins = begin_word in
+    let words = ap (λ word. bytes_eq word (codes "begin")) parts.0 in
+    cc
+
+-- a line of a nest is known by what it is printed as
+pub same_nest_line : (line other : NestLine ℕ) → IsValidLine line → IsValidLine other → printed_line line ≡ printed_line other → line ≡ other
+same_nest_line (CommandLine command) (CommandLine other) valid sound same =
+    ap CommandLine (same_written_command command other valid sound same)
+same_nest_line (CommandLine command) BeginLine valid sound same = absurd (command_is_no_begin command valid same)
+same_nest_line (CommandLine command) CommitLine valid sound same = absurd (command_is_no_end command Commit valid same)
+same_nest_line (CommandLine command) AbortLine valid sound same = absurd (command_is_no_end command Abort valid same)
+same_nest_line BeginLine (CommandLine other) valid sound same = absurd (command_is_no_begin other sound (sym same))
+same_nest_line BeginLine BeginLine valid sound same = refl
+same_nest_line BeginLine CommitLine valid sound same = absurd (apart _ _ refl same)
+same_nest_line BeginLine AbortLine valid sound same = absurd (apart _ _ refl same)
+same_nest_line CommitLine (CommandLine other) valid sound same = absurd (command_is_no_end other Commit sound (sym same))
+same_nest_line CommitLine BeginLine valid sound same = absurd (apart _ _ refl same)
+same_nest_line CommitLine CommitLine valid sound same = refl
+same_nest_line CommitLine AbortLine valid sound same = absurd (apart _ _ refl same)
+same_nest_line AbortLine (CommandLine other) valid sound same = absurd (command_is_no_end other Abort sound (sym same))
+same_nest_line AbortLine BeginLine valid sound same = absurd (apart _ _ refl same)
+same_nest_line AbortLine CommitLine valid sound same = absurd (apart _ _ refl same)
+same_nest_line AbortLine AbortLine valid sound same = refl
+
+-- the other lines are these and more, and what follows these is the print of the more and what follows the others
+pub record IsLonger (lines others : List (NestLine ℕ)) (rest more : List Line) : Type 0 where
+  pub behind : List (NestLine ℕ)
+  pub lines_are : others ≡ lines ++ behind
+  pub rest_is : rest ≡ map printed_line behind ++ more
+
+-- of two lists of lines that print the front of the same, one goes on with more
+pub one_is_longer : (lines others : List (NestLine ℕ)) (rest more : List Line) → AllByRecursion IsValidLine lines
+    → AllByRecursion IsValidLine others → map printed_line lines ++ rest ≡ map printed_line others ++ more
+    → IsLonger lines others rest more ⊎ IsLonger others lines more rest
+one_is_longer [] others rest more valid sound same = inl (record { behind = others; lines_are = refl; rest_is = same })
+one_is_longer (line ∷ lines) [] rest more valid sound same =
+    inr (record { behind = line ∷ lines; lines_are = refl; rest_is = sym same })
+one_is_longer (line ∷ lines) (other ∷ others) rest more valid sound same =
+    let first : printed_line line ≡ printed_line other = cc in
+    let tails : map printed_line lines ++ rest ≡ map printed_line others ++ more = cc in
+    let known : line ≡ other = same_nest_line line other valid.0 sound.0 first in
+    elim (one_is_longer lines others rest more valid.1 sound.1 tails) [
+      | inl longer ↦ let later = longer.lines_are in inl (record {
+        behind = longer.behind;
+        lines_are = let is : others ≡ lines ++ longer.behind = longer.lines_are in cc;
+        rest_is = longer.rest_is;
+      })
+      | inr longer ↦ inr (record {
+        behind = longer.behind;
+        lines_are = let is : lines ≡ others ++ longer.behind = longer.lines_are in cc;
+        rest_is = longer.rest_is;
+      })
+    ]
+
+-- the lines of a body and the one that ends it
+abbrev pub closed_lines : Body ℕ → End → List (NestLine ℕ)
+closed_lines body ending = body_lines body ++ end_line ending ∷ []
+
+pub printed_end : (ending : End) → printed_line (end_line ending) ≡ written_end ending
+printed_end Commit = refl
+printed_end Abort = refl
+
+valid_end : (ending : End) → IsValidLine (end_line ending)
+valid_end Commit = tt
+valid_end Abort = tt
+
+-- they are printed line by line
+pub closed_printed : (body : Body ℕ) (ending : End) (rest : List Line)
+    → ended_lines nest_printing body ending ++ rest ≡ map printed_line (closed_lines body ending) ++ rest
+closed_printed body ending rest =
+    ap (λ lines. lines ++ rest) (ap (λ line. map printed_line (body_lines body) ++ line ∷ []) (sym (printed_end ending))
+    ∙ sym (map-append printed_line (body_lines body) (end_line ending ∷ [])))
+
+-- and valid where the body is
+pub closed_valid : (body : Body ℕ) (ending : End) → AllByRecursion IsValidLine (body_lines body)
+    → AllByRecursion IsValidLine (closed_lines body ending)
+closed_valid body ending valid = AllByRecursion-append IsValidLine (body_lines body) (end_line ending ∷ []) valid (valid_end ending, tt)
+
+-- a body with its end is no front of another one
+told_by_longer : (body other : Body ℕ) (ending end : End) (rest more : List Line)
+    → IsLonger (closed_lines body ending) (closed_lines other end) rest more → (body ≡ other) × (ending ≡ end) × (rest ≡ more)
+told_by_longer body other ending end rest more longer =
+    let parts = tells other body (end_line end ∷ []) (end_line ending ∷ longer.behind) (ends_at end []) (ends_at ending longer.behind)
+    (longer.lines_are ∙ append_assoc (body_lines body) (end_line ending ∷ []) longer.behind) in
+    let ends = heads (end_line end) (end_line ending) [] longer.behind parts.1 in (
+      sym parts.0,
+      same_end ending end (sym ends.0),
+      longer.rest_is ∙ ap (λ behind. map printed_line behind ++ more) (sym ends.1),
+    )
+
+-- so the lines of a valid body and its end tell it from every other one
+pub nests_told : TellsBodies nest_printing
+nests_told body other ending end rest more valid sound same =
+    let both = sym (closed_printed body ending rest) ∙ (same ∙ closed_printed other end more) in
+    elim (one_is_longer (closed_lines body ending) (closed_lines other end) rest more (closed_valid body ending valid)
+    (closed_valid other end sound) both) [
+      | inl longer ↦ told_by_longer body other ending end rest more longer
+      | inr longer ↦ let parts = told_by_longer other body end ending more rest longer in (sym parts.0, sym parts.1, sym parts.2)
+    ]
