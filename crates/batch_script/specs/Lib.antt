@@ -16,6 +16,7 @@ pub mod Reading
 pub mod Refusal
 pub mod Reply
 pub mod RunText
+pub mod Space
 pub mod Status
 pub mod Summary
 pub mod Words
