@@ -26,7 +26,8 @@ later_more n m (Some bad) next =
     let at : 1 + (n + bad.at) ≡ m + bad.at = omega arith in
     ap (λ k. Some (record bad { at = k })) at
 
-if_none : (o : Option Cause) (P : Type 0) → o ≡ None → IfNone o P → P
+-- what holds if there is no cause holds where there is none
+pub if_none : (o : Option Cause) (P : Type 0) → o ≡ None → IfNone o P → P
 if_none o P none here = subst (λ x. IfNone x P) none here
 
 if_none_back : (o : Option Cause) (P : Type 0) → o ≡ None → P → IfNone o P

@@ -35,7 +35,8 @@ use Rattle.batch_core.proofs.BackFacts.{admitted, count_cuts, undo_all-append, u
 not_at_most : (a b : ℕ) → (¬ (a ≤ b)) → b < a
 not_at_most a b stays = omega arith
 
-not_beyond : (a b : ℕ) → (¬ (a < b)) → b ≤ a
+-- what isn't above a is at most a
+pub not_beyond : (a b : ℕ) → (¬ (a < b)) → b ≤ a
 not_beyond a b stays = omega arith
 
 refused_here : (o : Option Cause) (cause : Cause) (n at : ℕ) (later : Option BadCommand) → o ≡ Some cause → at ≡ n + 1
@@ -50,7 +51,7 @@ module _ {X : Type 0} where
   count_made (Some old) made = omega arith
 
   -- a command leaves a record, and one more for each value that it cuts off
-  count_records : (c : Contents X) (command : Command X) → length (records_of c command) ≤ cut_by c command + 1
+  pub count_records : (c : Contents X) (command : Command X) → length (records_of c command) ≤ cut_by c command + 1
   count_records c (Push value) = omega arith
   count_records c Pop = omega (arith, count_made (last_value c.list) Popped)
   count_records c (Set at value) = omega (arith, count_made (slice_get c.list at) (Replaced at))
@@ -126,7 +127,7 @@ module _ {X : Type 0} where
       }
 
   -- what is counted for the records stays within their capacity
-  count_stays : (s : Workspace X) (command : Command X) (count : ℕ) → IsReady s → (¬ Passes s.room count s.contents command)
+  pub count_stays : (s : Workspace X) (command : Command X) (count : ℕ) → IsReady s → (¬ Passes s.room count s.contents command)
       → count ≤ s.capacities.records → count + cut_by s.contents command ≤ s.capacities.records
   count_stays s (Push value) count ready stays room = omega arith
   count_stays s Pop count ready stays room = omega arith
@@ -320,7 +321,8 @@ module _ {X : Type 0} where
   not_refused c course Commit bad same = let differ : committed course.records ≡ refused bad = ap (λ p. p.0) same in cc
   not_refused c course Abort bad same = let differ : ◌≡◌ {A = Outcome X} aborted (refused bad) = ap (λ p. p.0) same in cc
 
-  bad_refused : (c : Contents X) (course : Course X) (ending : End) (bad : BadCommand)
+  -- a course with no bad command isn't refused for one
+  pub bad_refused : (c : Contents X) (course : Course X) (ending : End) (bad : BadCommand)
       → outcome_of c course ending ≡ (refused bad, c) → first_bad course.stands ≡ None → ⊥
   bad_refused c course ending bad is none =
       not_refused c course ending bad (sym (ap (λ o. unless_bad o c (ended c course ending)) none) ∙ is)

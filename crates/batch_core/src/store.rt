@@ -203,7 +203,8 @@ impl<T: Drop> Store<T> {
         ensures err { OnErr result (IsKept self.old self.new) }
         ensures room { self.new.room ≡ self.old.room }
         ensures grows { Grows self.old.capacities self.new.capacities }
-        ensures never_refused_within { len (effect_of self.old.contents (Command.Alloc value)).live ≤ self.old.capacities.table
+        ensures never_refused_within { len (effect_of self.old.contents (Command.Alloc value)).live
+            ≤ self.old.capacities.table
             → IsOk result }
     {
         // For the proof: the order belongs to the live ids, so the next id is a new one.
@@ -251,7 +252,8 @@ impl<T: Drop> Store<T> {
         ensures err { OnErr result (IsKept self.old self.new) }
         ensures room { self.new.room ≡ self.old.room }
         ensures grows { Grows self.old.capacities self.new.capacities }
-        ensures never_refused_within { AllBelow self.old.capacities.set (effect_of self.old.contents (Command.Insert number)).set
+        ensures never_refused_within { AllBelow self.old.capacities.set
+            (effect_of self.old.contents (Command.Insert number)).set
             → IsOk result }
     {
         let was_new = self.set.insert(number as usize)?;
@@ -444,7 +446,8 @@ impl<T: Drop> Store<T> {
     // Puts a number that was taken out back into the set: there is a word for it.
     fn put_back(&mut self, number: u64)
         requires { CanUndo self.old.capacities (Record.Removed number true) self.old.contents }
-        ensures contents { self.new.contents ≡ undo_record (Record.Removed number true) self.old.contents }
+        ensures contents { self.new.contents
+            ≡ undo_record (Record.Removed number true) self.old.contents }
         ensures records { self.new.records ≡ self.old.records }
         ensures room { self.new.room ≡ self.old.room }
         ensures capacities { self.new.capacities ≡ self.old.capacities }

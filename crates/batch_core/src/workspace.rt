@@ -220,7 +220,8 @@ impl<T: Drop> Workspace<T> {
             → IfErr result (λ r. ¬ IsOom r.cause) }
         ensures never_refused_within { Fits self.old.room
             (batch_course self.old.contents commands.items).stands
-            → first_bad (batch_course self.old.contents commands.items).stands ≡ None → IsOk result }
+            → first_bad (batch_course self.old.contents commands.items).stands ≡ None
+            → IsOk result }
         ensures back { back self.new.contents self.new.records 0 ≡ self.old.contents }
         ensures room { self.new.room ≡ self.old.room }
         ensures grows { Grows self.old.capacities self.new.capacities }

@@ -1,0 +1,11 @@
+pub mod CountFacts
+pub mod CourseFacts
+pub mod FrameFacts
+pub mod LawFacts
+pub mod LineFacts
+pub mod NestFacts
+pub mod OutcomeFacts
+pub mod RefusedFacts
+pub mod RoomFacts
+pub mod ShapeFacts
+pub mod TellFacts
