@@ -17,6 +17,7 @@ pub mod ReadingLaws
 pub mod Refusal
 pub mod Reply
 pub mod RunText
+pub mod Space
 pub mod Status
 pub mod Summary
 pub mod Words

@@ -39,7 +39,3 @@ pub record AnswersOver {B : Type 0} (bodies : Bodies B) (item : ItemOf B) (old n
   pub reply : Reply
   pub step : ItemStepOver bodies (state_of old) item reply (state_of new)
   pub written : after ≡ before ++ text_of_lines (reply_lines reply)
-
--- so it did for an item of a script of batches
-abbrev pub Answers : PlainItem → Workspace ℕ → Workspace ℕ → List ℕ → List ℕ → Type 0
-Answers = AnswersOver batches

@@ -3,7 +3,8 @@
 //! A script is a list of items: `reserve n` makes the room larger, `show` tells all that is held, and a batch of commands takes
 //! effect whole or not at all. `parse` returns the items of a script, `run` the text of its replies, and `top` is the whole program:
 //! words, a source and a sink in, a status out. `generate` makes a script from two numbers, to try a load with, and `summary` runs a
-//! script and says in seven lines what it came to. Nothing here has a counterpart in the Rust crates.
+//! script and says in seven lines what it came to. Items run on any `Space`: a workspace, and the bodies that it applies. Nothing here
+//! has a counterpart in the Rust crates.
 //!
 //! ```
 //! pub fn run_in_memory(alloc: Global, script: TryVec<u8>, room: usize) -> Result<(Status, MemSink), OutOfMemory>
@@ -54,6 +55,7 @@ mod program;
 mod reply;
 mod run_error;
 mod runner;
+mod space;
 mod summarizer;
 mod words;
 
@@ -70,6 +72,7 @@ pub use parser::{Start, command_of, end_of, parse, parse_command, start_of};
 pub use program::{Asked, INPUT_LIMIT, Program, ReadEnd, Status, read_input, serve, write_text};
 pub use reply::push_reply;
 pub use run_error::RunError;
-pub use runner::run;
+pub use runner::{Runner, run, run_body, run_items, run_reserve, run_show};
+pub use space::Space;
 pub use summarizer::summary;
 pub use words::MOST_BATCHES;
