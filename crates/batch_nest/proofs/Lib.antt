@@ -4,8 +4,10 @@ pub mod FrameFacts
 pub mod LawFacts
 pub mod LineFacts
 pub mod NestFacts
+pub mod OpenFacts
 pub mod OutcomeFacts
 pub mod PrintFacts
+pub mod ReadingFacts
 pub mod RefusedFacts
 pub mod RoomFacts
 pub mod Rows

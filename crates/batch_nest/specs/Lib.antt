@@ -3,5 +3,7 @@ pub mod Applied
 pub mod Laws
 pub mod Nest
 pub mod Program
+pub mod Reading
+pub mod ReadingLaws
 pub mod Savepoint
 pub mod Script

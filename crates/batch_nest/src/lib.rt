@@ -32,15 +32,19 @@
 
 #[cfg(test)]
 mod callers;
+mod item;
 pub mod laws;
 mod levels;
 mod nest;
+mod parser;
 mod space;
 #[cfg(test)]
 mod tests;
 
+pub use item::{NestItem, NestScript};
 pub use laws::{
     law_all_committed, law_inner_abort, law_larger_room, law_one_body, law_without_inner,
 };
 pub use nest::{Nest, NestLine};
+pub use parser::nest_parse;
 pub use space::NestSpace;

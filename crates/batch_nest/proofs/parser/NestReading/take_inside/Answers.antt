@@ -1,0 +1,34 @@
+use Rattle.std.proofs.Common.{◌≡◌, [], ◌∷◌, ◌++◌, ◌+◌, OnOk, arith, sym, subst, ◌∙◌}
+use Rattle.batch_nest.specs.Reading.{TakesNestLine}
+use Rattle.batch_nest.proofs.OpenFacts.{IsOpenAt, open_begin, open_command}
+use Rattle.batch_nest.proofs.ReadingFacts.{read_nest_line}
+use Rattle.batch_nest.proofs.parser.NestReading.take_inside.Goals.{in-Begin+in-Some, in-Command}
+use Rattle.batch_nest.proofs.parser.NestReading.take_inside.Goals as goal
+
+pub returns-in-Commit : goal.returns-in-Commit
+returns-in-Commit c = record {
+  ok = subst (λ line. OnOk c.take_end.result (TakesNestLine c.args.self.now c.args.begun c.take_end.new.self line)) (sym c.in-Commit.is)
+      c.take_end.ensures.ok;
+}
+
+pub returns-in-Abort : goal.returns-in-Abort
+returns-in-Abort c =
+    let ended = c.take_end-in-Abort in record {
+      ok = subst (λ line. OnOk ended.result (TakesNestLine c.args.self.now c.args.begun ended.new.self line)) (sym c.in-Abort.is)
+          ended.ensures.ok;
+    }
+
+pub returns : goal.returns
+returns c =
+    let old = c.args.self.now in
+    let begun = c.args.begun in
+    let line = c.args.line in
+    let next = c.in_ok-with.field-0 in
+    let front = begun.lines.items in
+    let stays_open : IsOpenAt front begun.depth → IsOpenAt (front ++ line ∷ []) next.depth = λ opened. elim c.match-line.branch [
+      | in-Begin+in-Some w ↦ open_begin front begun.depth next.depth line w.in-Begin.is
+          (c.in_ok-with.ensures.depth ∙ (w.deeper-is ∙ w.in-Some.ensures.1)) opened
+      | in-Command w ↦ subst (λ depth. IsOpenAt (front ++ line ∷ []) depth) (sym (c.in_ok-with.ensures.depth ∙ w.deeper-is))
+          (open_command front begun.depth line _ w.in-Command.is opened)
+    ] in
+    record { ok = λ lines valid was. read_nest_line old.items.items begun next lines line was valid c.in_ok-with.ensures.lines stays_open }

@@ -1,0 +1,73 @@
+-- What the parser has read so far of a script of nests, as plain items and lines.
+use Rattle.std.specs.Prelude.{⊤, ◌≡◌, ℕ, zero, suc, List, [], ◌∷◌, ◌++◌, map, codes, Option, Some, None}
+use Rattle.std.specs.List.{AllByRecursion}
+use Rattle.batch_core.specs.declared.command.End.{End}
+use Rattle.batch_core.specs.declared.command.End.TheVariants.{Commit, Abort}
+use Rattle.batch_script.specs.Grammar.{Line, IsValidItemOver, all_lines_over}
+use Rattle.batch_script.specs.Machine.{ItemOf, reserve, show, batch}
+use Rattle.batch_nest.specs.declared.item.NestItem.{NestItem}
+use Rattle.batch_nest.specs.declared.item.NestItem.TheVariants.{Reserve, Show, Nest as NestOf}
+use Rattle.batch_nest.specs.declared.nest.NestLine.{NestLine}
+use Rattle.batch_nest.specs.declared.nest.NestLine.TheVariants.{Commit as CommitLine}
+use Rattle.batch_nest.specs.declared.parser.NestReading.{NestReading}
+use Rattle.batch_nest.specs.declared.parser.OpenNest.{OpenNest}
+use Rattle.batch_nest.specs.Nest.{body_lines, IsBalanced}
+use Rattle.batch_nest.specs.Script.{PlainNestItem, IsValidLine, nest_printing, printed_line}
+
+-- an item of the parser stands for this one: a nest has the lines of its body
+abbrev pub StandsForItem : NestItem → PlainNestItem → Type 0
+StandsForItem (Reserve number) (reserve amount) = number ≡ amount
+StandsForItem Show show = ⊤
+StandsForItem (NestOf nest) (batch body ending) = (nest.lines.items ≡ body_lines body) × (nest.end ≡ ending)
+StandsForItem (Reserve number) show = ⊥
+StandsForItem (Reserve number) (batch body ending) = ⊥
+StandsForItem Show (reserve amount) = ⊥
+StandsForItem Show (batch body ending) = ⊥
+StandsForItem (NestOf nest) (reserve amount) = ⊥
+StandsForItem (NestOf nest) show = ⊥
+
+-- items of the parser stand for these, one for one
+abbrev pub StandFor : List NestItem → List PlainNestItem → Type 0
+StandFor [] [] = ⊤
+StandFor (item ∷ items) (plain ∷ plains) = StandsForItem item plain × StandFor items plains
+StandFor [] (plain ∷ plains) = ⊥
+StandFor (item ∷ items) [] = ⊥
+
+-- so many lines that end an inner batch
+abbrev pub commits : ℕ → List (NestLine ℕ)
+commits zero = []
+commits (suc depth) = CommitLine ∷ commits depth
+
+-- a nest that has begun has only valid lines, and with an end for each inner batch that is open they are balanced
+pub record IsOpenNest (begun : OpenNest) : Type 0 where
+  pub valid : AllByRecursion IsValidLine begun.lines.items
+  pub balanced : IsBalanced (begun.lines.items ++ commits begun.depth)
+
+-- the lines of a nest that has begun and not ended, if there is one
+abbrev pub begun_lines : Option OpenNest → List Line
+begun_lines None = []
+begun_lines (Some begun) = codes "begin" ∷ map printed_line begun.lines.items
+
+-- if there is one, it is an open nest
+abbrev pub IsOpenIfBegun : Option OpenNest → Type 0
+IsOpenIfBegun None = ⊤
+IsOpenIfBegun (Some begun) = IsOpenNest begun
+
+-- these lines are those of the items, followed by those of the nest that has begun
+pub record AreNestsRead (items : List PlainNestItem) (begun : Option OpenNest) (lines : List Line) : Type 0 where
+  pub valid_items : AllByRecursion (IsValidItemOver nest_printing) items
+  pub valid_open : IsOpenIfBegun begun
+  pub same : lines ≡ all_lines_over nest_printing items ++ begun_lines begun
+
+-- these items were read, and then this nest begun, from these lines
+abbrev pub HaveRead : List NestItem → Option OpenNest → List Line → Type 0
+HaveRead items begun lines = (plains : List PlainNestItem) × StandFor items plains × AreNestsRead plains begun lines
+
+-- the reading has taken these lines
+abbrev pub HasReadNests : NestReading → List Line → Type 0
+HasReadNests reading lines = HaveRead reading.items.items reading.begun lines
+
+-- where the reading had taken lines and begun this nest, it takes this line of it behind them
+abbrev pub TakesNestLine : NestReading → OpenNest → NestReading → NestLine ℕ → Type 0
+TakesNestLine old begun new line =
+    (lines : List Line) → IsValidLine line → HaveRead old.items.items (Some begun) lines → HasReadNests new (lines ++ printed_line line ∷ [])
