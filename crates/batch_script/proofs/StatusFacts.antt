@@ -6,11 +6,11 @@ use Rattle.batch_core.specs.State.{empty_state}
 use Rattle.batch_script.specs.Answer.{ReadsAll, status_of, text_of_answer}
 use Rattle.batch_script.specs.Device.{Use, HasFaults, OfTold}
 use Rattle.batch_script.specs.Generated.{generated}
-use Rattle.batch_script.specs.Grammar.{IsScriptOf, batch_printing}
-use Rattle.batch_script.specs.Headline.{Premises, RunsWhole, WantsMemory}
-use Rattle.batch_script.specs.Machine.{PlainItem, Run}
+use Rattle.batch_script.specs.Grammar.{Printing, TellsBodies, batch_printing, IsScriptOfOver, IsScriptOver}
+use Rattle.batch_script.specs.Headline.{Premises, PremisesOver, RunsWhole, RunsWholeOver, WantsMemory}
+use Rattle.batch_script.specs.Machine.{Bodies, ItemOf, PlainItem, RunOver, batches}
 use Rattle.batch_script.specs.Program.{AsksForSummary, SummarizesRun, batch_meaning}
-use Rattle.batch_script.specs.RunText.{IsRunText}
+use Rattle.batch_script.specs.RunText.{IsRunTextOver}
 use Rattle.batch_script.specs.ProgramLaws.{batch_sound, some_words}
 use Rattle.batch_script.specs.Status.{CallsFor, Concludes, EndsAmong, Finishes, IsAmong, IsMeaning, Meaning, RepliesTo}
 use Rattle.batch_script.specs.Summary.{summary_text}
@@ -169,57 +169,81 @@ two_left_unread first result sink (inr (inl is)) write silent = inr is
 two_left_unread first result sink (inr (inr (inl is))) write silent = absurd (silent (write is))
 two_left_unread first result sink (inr (inr (inr none))) write silent = absurd none
 
--- ---- the program of batches
+-- ---- the headline
 
--- the text of one run of the items
-runs : (result : Status) (written_after : Option (List ℕ)) (input held text : List ℕ) (items : List PlainItem) → result ≡ Done
-    → IsRunText input text → IsScriptOf input items → written_after ≡ Some (held ++ text) → RunsWhole result written_after held items
-runs result written_after input held text items is text_of_run script gained =
-    let same = one_script batch_printing batches_told text_of_run.0 items text_of_run.1.valid script.valid
-    (sym text_of_run.1.lines ∙ script.lines) in
-    record {
-      done = is;
-      replies = text_of_run.2.0;
-      run = subst (λ (read : List PlainItem). Run empty_state read text_of_run.2.0) same text_of_run.2.1;
-      gained = gained ∙ ap (λ bytes. Some (held ++ bytes)) text_of_run.2.2;
-    }
+module _ {B : Type 0} (bodies : Bodies B) (printing : Printing B) (told : TellsBodies printing) where
+  -- the text of one run of the items
+  runs : (result : Status) (written_after : Option (List ℕ)) (input held text : List ℕ) (items : List (ItemOf B)) → result ≡ Done
+      → IsRunTextOver bodies printing input text → IsScriptOfOver printing input items → written_after ≡ Some (held ++ text)
+      → RunsWholeOver bodies result written_after held items
+  runs result written_after input held text items is text_of_run script gained =
+      let same = one_script printing told text_of_run.0 items text_of_run.1.valid script.valid
+      (sym text_of_run.1.lines ∙ script.lines) in
+      record {
+        done = is;
+        replies = text_of_run.2.0;
+        run = subst (λ (read : List (ItemOf B)). RunOver bodies empty_state read text_of_run.2.0) same text_of_run.2.1;
+        gained = gained ∙ ap (λ bytes. Some (held ++ bytes)) text_of_run.2.2;
+      }
 
 -- the line of out of memory, whole
-wants : (words : List TryString) (source sink : Use) (result : Status) (held : List ℕ)
-    (wrote : Wrote batch_meaning words source sink result)
+wants : (meaning : Meaning) (words : List TryString) (source sink : Use) (result : Status) (held : List ℕ)
+    (wrote : Wrote meaning words source sink result)
     → sink.told ≡ Some held → result ≡ Oom → WantsMemory result sink.told_after held
-wants words source sink result held wrote told is =
-    let called : CallsFor batch_meaning words source Oom wrote.text =
-    subst (λ s. CallsFor batch_meaning words source s wrote.text) is wrote.called_for in record {
+wants meaning words source sink result held wrote told is =
+    let called : CallsFor meaning words source Oom wrote.text =
+    subst (λ s. CallsFor meaning words source s wrote.text) is wrote.called_for in record {
       wanted = is;
       gained = wrote.gained held told ∙ ap (λ bytes. Some (held ++ bytes)) called.2;
     }
 
-headline_by : (words : List TryString) (source sink : Use) (result : Status) (input held : List ℕ) (items : List PlainItem)
-    → Wrote batch_meaning words source sink result → Premises words source sink input held items → (result ≡ Done) ⊎ (result ≡ Oom)
-    → RunsWhole result sink.told_after held items ⊎ WantsMemory result sink.told_after held
-headline_by words source sink result input held items wrote premises (inl is) =
-    let called : CallsFor batch_meaning words source Done wrote.text =
-    subst (λ s. CallsFor batch_meaning words source s wrote.text) is wrote.called_for in
-    let replies = replies_of batch_meaning batch_sound words source wrote.text called.1 premises.no_words in
-    inl (runs result sink.told_after input held wrote.text items is (replies.replies input premises.source_tells) premises.script
-    (wrote.gained held premises.sink_tells))
-headline_by words source sink result input held items wrote premises (inr is) =
-    inr (wants words source sink result held wrote premises.sink_tells is)
+-- to the program these are the scripts, and only the texts of their runs reply to them
+pub record IsOfScripts {B : Type 0} (bodies : Bodies B) (printing : Printing B) (meaning : Meaning) : Type 0 where
+  pub sound : IsMeaning meaning
+  pub scripts : (input : List ℕ) → IsScriptOver printing input → meaning.is_script input
+  pub replies : (input text : List ℕ) → meaning.is_reply input text → IsRunTextOver bodies printing input text
 
--- the headline, by how the call came to its result
+module _ {B : Type 0} (bodies : Bodies B) (printing : Printing B) (told : TellsBodies printing) (meaning : Meaning)
+    (known : IsOfScripts bodies printing meaning) where
+  headline_by : (words : List TryString) (source sink : Use) (result : Status) (input held : List ℕ) (items : List (ItemOf B))
+      → Wrote meaning words source sink result → PremisesOver printing words source sink input held items
+      → (result ≡ Done) ⊎ (result ≡ Oom)
+      → RunsWholeOver bodies result sink.told_after held items ⊎ WantsMemory result sink.told_after held
+  headline_by words source sink result input held items wrote premises (inl is) =
+      let called : CallsFor meaning words source Done wrote.text =
+      subst (λ s. CallsFor meaning words source s wrote.text) is wrote.called_for in
+      let replies = replies_of meaning known.sound words source wrote.text called.1 premises.no_words in
+      inl (runs bodies printing told result sink.told_after input held wrote.text items is
+      (known.replies input wrote.text (replies.replies input premises.source_tells)) premises.script
+      (wrote.gained held premises.sink_tells))
+  headline_by words source sink result input held items wrote premises (inr is) =
+      inr (wants meaning words source sink result held wrote premises.sink_tells is)
+
+  -- the headline, by how the call came to its result
+  pub headline_over : (words : List TryString) (source sink : Use) (writes : ℕ → Type 0) (result : Status)
+      → Concludes meaning words source sink writes result → (input held : List ℕ) (items : List (ItemOf B))
+      → PremisesOver printing words source sink input held items
+      → RunsWholeOver bodies result sink.told_after held items ⊎ WantsMemory result sink.told_after held
+  headline_over words source sink writes result how input held items premises =
+      let ends = ends_lem meaning known.sound words source sink writes result how in
+      headline_by words source sink result input held items
+      (wrote_lem meaning words source sink writes result how premises.sink_quiet) premises
+      (two_left Done result source sink
+      (ends.script input (record { no_words = premises.no_words; told = premises.source_tells }) premises.within_limit
+      (known.scripts input (items, premises.script)))
+      ends.read_fault ends.write_fault premises.source_quiet premises.sink_quiet)
+
+-- ---- the program of batches
+
+batches_known : IsOfScripts batches batch_printing batch_meaning
+batches_known = record { sound = batch_sound; scripts = λ input script. script; replies = λ input text reply. reply }
+
+-- the headline for scripts of batches
 pub headline_lem : (words : List TryString) (source sink : Use) (writes : ℕ → Type 0) (result : Status)
     → Concludes batch_meaning words source sink writes result → (input held : List ℕ) (items : List PlainItem)
     → Premises words source sink input held items
     → RunsWhole result sink.told_after held items ⊎ WantsMemory result sink.told_after held
-headline_lem words source sink writes result how input held items premises =
-    let ends = ends_lem batch_meaning batch_sound words source sink writes result how in
-    headline_by words source sink result input held items
-    (wrote_lem batch_meaning words source sink writes result how premises.sink_quiet) premises
-    (two_left Done result source sink
-    (ends.script input (record { no_words = premises.no_words; told = premises.source_tells }) premises.within_limit
-    (items, premises.script))
-    ends.read_fault ends.write_fault premises.source_quiet premises.sink_quiet)
+headline_lem = headline_over batches batch_printing batches_told batch_meaning batches_known
 
 summary_by : (words : List TryString) (source sink : Use) (result : Status) (seed count : ℕ) (held : List ℕ)
     → Wrote batch_meaning words source sink result → AsksForRun words seed count → sink.told ≡ Some held
@@ -241,7 +265,7 @@ summary_by words source sink result seed count held wrote asks told (inl is) =
         asked.tells ∙ (ap (λ from. summary_text (generated from asked.count)) same.0
         ∙ ap (λ many. summary_text (generated seed many)) same.1)
 summary_by words source sink result seed count held wrote asks told (inr is) =
-    inr (wants words source sink result held wrote told is)
+    inr (wants batch_meaning words source sink result held wrote told is)
 
 -- the summary, by how the call came to its result
 pub summary_lem : (words : List TryString) (source sink : Use) (writes : ℕ → Type 0) (result : Status)

@@ -3,15 +3,16 @@ use Rattle.std.specs.Prelude.{◌≡◌, ℕ, ◌≤◌, List, [], ◌∷◌, �
 use Rattle.wic_vec.specs.TryString.{TryString}
 use Rattle.batch_core.specs.State.{empty_state}
 use Rattle.batch_script.specs.Device.{Use, HasFaults}
-use Rattle.batch_script.specs.Grammar.{IsScriptOf}
-use Rattle.batch_script.specs.Machine.{PlainItem, Reply, Run}
+use Rattle.batch_script.specs.Grammar.{Printing, batch_printing, IsScriptOfOver}
+use Rattle.batch_script.specs.Machine.{Bodies, ItemOf, PlainItem, Reply, RunOver, batches}
 use Rattle.batch_script.specs.Reply.{text_of, text_of_lines}
 use Rattle.batch_script.specs.declared.program.Status.{Status}
 use Rattle.batch_script.specs.declared.program.Status.TheVariants.{Done, Oom}
 use Rattle.batch_script.specs.declared.program.TheConstants.{INPUT_LIMIT}
 
 -- What the headline supposes of a call, of the input and of the items.
-pub record Premises (words : List TryString) (source sink : Use) (input held : List ℕ) (items : List PlainItem) : Type 0 where
+pub record PremisesOver {B : Type 0} (printing : Printing B) (words : List TryString) (source sink : Use) (input held : List ℕ)
+    (items : List (ItemOf B)) : Type 0 where
   -- no words are given
   pub no_words : words ≡ []
   -- the source tells its bytes, which are the input
@@ -25,18 +26,27 @@ pub record Premises (words : List TryString) (source sink : Use) (input held : L
   -- nor the sink's
   pub sink_quiet : ¬ HasFaults sink
   -- the input is the script of the items, which are valid
-  pub script : IsScriptOf input items
+  pub script : IsScriptOfOver printing input items
+
+-- so it does for a script of batches
+abbrev pub Premises : List TryString → Use → Use → List ℕ → List ℕ → List PlainItem → Type 0
+Premises = PremisesOver batch_printing
 
 -- The first outcome: the text of one run, whole.
-pub record RunsWhole (status : Status) (written : Option (List ℕ)) (held : List ℕ) (items : List PlainItem) : Type 0 where
+pub record RunsWholeOver {B : Type 0} (bodies : Bodies B) (status : Status) (written : Option (List ℕ)) (held : List ℕ)
+    (items : List (ItemOf B)) : Type 0 where
   -- the status is 0
   pub done : status ≡ Done
   -- there are replies
   pub replies : List Reply
   -- that the machine may give to the items, one after the other from empty
-  pub run : Run empty_state items replies
+  pub run : RunOver bodies empty_state items replies
   -- the sink holds what it held, followed by their text and nothing else
   pub gained : written ≡ Some (held ++ text_of replies)
+
+-- so it is for the items of a script of batches
+abbrev pub RunsWhole : Status → Option (List ℕ) → List ℕ → List PlainItem → Type 0
+RunsWhole = RunsWholeOver batches
 
 -- The second outcome: out of memory.
 pub record WantsMemory (status : Status) (written : Option (List ℕ)) (held : List ℕ) : Type 0 where
