@@ -12,4 +12,5 @@ pub mod RefusedFacts
 pub mod RoomFacts
 pub mod Rows
 pub mod ShapeFacts
+pub mod SpaceFacts
 pub mod TellFacts

@@ -18,7 +18,7 @@ use Rattle.batch_nest.specs.Nest.{Body, IsBalanced, body_lines, end_line}
 use Rattle.batch_nest.specs.Reading.{commits}
 use Rattle.batch_nest.specs.Script.{PlainNestItem, IsValidLine, nest_printing, printed_line}
 use Rattle.batch_nest.proofs.LineFacts.{Closes, balanced_closes, closes_balanced}
-use Rattle.batch_nest.proofs.PrintFacts.{IsLonger, closed_lines, closed_printed, closed_valid, one_is_longer}
+use Rattle.batch_nest.proofs.PrintFacts.{closed_lines, closed_printed, closed_valid, one_is_longer}
 use Rattle.batch_nest.proofs.TellFacts.{ends_at, tells}
 
 -- with so many bodies open before these lines, so many are open behind them

@@ -13,7 +13,6 @@ use Rattle.batch_script.specs.Reading.{HasParts, first_numbers, first_word}
 use Rattle.batch_script.specs.ReadingLaws.{AllByRecursion-append}
 use Rattle.batch_script.proofs.LineFacts.{same_line}
 use Rattle.batch_script.proofs.OpenFacts.{all_lines-append, begun_is_stuck, stuck_at_start, stuck_behind}
-use Rattle.batch_script.proofs.PrefixFacts.{StartsItem}
 use Rattle.batch_script.proofs.ReadingFacts.{parts_start_none}
 use Rattle.batch_nest.specs.declared.item.NestItem.{NestItem}
 use Rattle.batch_nest.specs.declared.item.NestItem.TheVariants.{Reserve, Show}
@@ -22,7 +21,7 @@ use Rattle.batch_nest.specs.declared.nest.NestLine.TheVariants.{Command as Comma
 use Rattle.batch_nest.specs.declared.nest.NestLine.TheVariants.{Commit as CommitLine, Abort as AbortLine}
 use Rattle.batch_nest.specs.declared.parser.OpenNest.{OpenNest}
 use Rattle.batch_nest.specs.Nest.{IsBalanced, body_lines, end_line}
-use Rattle.batch_nest.specs.Reading.{AreNestsRead, HaveRead, StandFor, StandsForItem, begun_lines}
+use Rattle.batch_nest.specs.Reading.{HaveRead, StandFor, StandsForItem, begun_lines}
 use Rattle.batch_nest.specs.ReadingLaws.{line_has_parts}
 use Rattle.batch_nest.specs.Script.{PlainNestItem, IsNestOpen, IsNestScript, IsValidLine}
 use Rattle.batch_nest.specs.Script.{line_numbers, line_word, nest_printing, printed_line}

@@ -10,7 +10,7 @@ use Rattle.batch_script.specs.Grammar.{Line, all_lines_over}
 use Rattle.batch_script.specs.Machine.{reserve, show, batch, replies_over}
 use Rattle.batch_script.specs.Reply.{reply_lines}
 use Rattle.batch_script.proofs.ShownFacts.{shows}
-use Rattle.batch_nest.specs.Nest.{Body, done, then_command, then_inner}
+use Rattle.batch_nest.specs.Nest.{done, then_command, then_inner}
 use Rattle.batch_nest.specs.Script.{PlainNestItem, nest_bodies, nest_printing}
 
 -- the lines of the replies to items, where memory is found

@@ -7,3 +7,4 @@ pub mod Reading
 pub mod ReadingLaws
 pub mod Savepoint
 pub mod Script
+pub mod Space

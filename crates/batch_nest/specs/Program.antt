@@ -1,5 +1,5 @@
 -- What scripts of nests and words mean to the program of nests.
-use Rattle.std.specs.Prelude.{◌≢◌, ℕ, List, [], codes}
+use Rattle.std.specs.Prelude.{◌≢◌, [], codes}
 use Rattle.batch_script.specs.Status.{Meaning, IsMeaning}
 use Rattle.batch_nest.specs.Script.{IsNestScript, IsNestFaultLine, IsNestRunText}
 

@@ -1,10 +1,8 @@
 -- What the parser has read so far of a script of nests, as plain items and lines.
 use Rattle.std.specs.Prelude.{⊤, ◌≡◌, ℕ, zero, suc, List, [], ◌∷◌, ◌++◌, map, codes, Option, Some, None}
 use Rattle.std.specs.List.{AllByRecursion}
-use Rattle.batch_core.specs.declared.command.End.{End}
-use Rattle.batch_core.specs.declared.command.End.TheVariants.{Commit, Abort}
 use Rattle.batch_script.specs.Grammar.{Line, IsValidItemOver, all_lines_over}
-use Rattle.batch_script.specs.Machine.{ItemOf, reserve, show, batch}
+use Rattle.batch_script.specs.Machine.{reserve, show, batch}
 use Rattle.batch_nest.specs.declared.item.NestItem.{NestItem}
 use Rattle.batch_nest.specs.declared.item.NestItem.TheVariants.{Reserve, Show, Nest as NestOf}
 use Rattle.batch_nest.specs.declared.nest.NestLine.{NestLine}

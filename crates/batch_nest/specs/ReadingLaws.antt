@@ -1,7 +1,7 @@
 -- Each line of a nest is a word with up to two numbers, and what was read of a script of nests begins one.
 use Rattle.std.proofs.Common.{◌≡◌, ℕ, zero, suc, ◌≤◌, false, List, [], ◌∷◌, ◌++◌, length, map, refl, ap, sym, ◌∙◌, arith}
 use Rattle.std.proofs.Common.{append_assoc, append-nil, Some, None, subst}
-use Rattle.std.specs.Prelude.{Option, codes}
+use Rattle.std.specs.Prelude.{Option}
 use Rattle.std.specs.List.{AllByRecursion}
 use Rattle.std.proofs.lemmas.List.{map-append}
 use Rattle.std.proofs.lemmas.List.Concat.{flat_map-append}

@@ -1,7 +1,6 @@
 -- Scripts of nests: what the bodies of their items come to, how they are printed, and which inputs they are.
-use Rattle.std.specs.Prelude.{ℕ, List, [], ◌∷◌, map, codes}
+use Rattle.std.specs.Prelude.{ℕ, List, [], map, codes}
 use Rattle.std.specs.List.{AllByRecursion}
-use Rattle.batch_core.specs.declared.command.Command.{Command}
 use Rattle.batch_script.specs.Grammar.{Line, Printing, IsWritable, line_of, word_of, numbers_of}
 use Rattle.batch_script.specs.Grammar.{IsScriptOver, IsFaultLineOver, IsOpenOver}
 use Rattle.batch_script.specs.Machine.{Bodies, ItemOf}

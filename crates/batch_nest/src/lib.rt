@@ -37,6 +37,8 @@ pub mod laws;
 mod levels;
 mod nest;
 mod parser;
+mod program;
+mod runner;
 mod space;
 #[cfg(test)]
 mod tests;
@@ -47,4 +49,6 @@ pub use laws::{
 };
 pub use nest::{Nest, NestLine};
 pub use parser::nest_parse;
+pub use program::{Nests, nest_top};
+pub use runner::nest_run;
 pub use space::NestSpace;

@@ -60,6 +60,13 @@ impl<T: Drop> NestSpace<T> {
         }
     }
 
+    /// The workspace, in place.
+    pub(crate) fn held(&self) -> &Workspace<T>
+        ensures held { result.now ≡ self.now }
+    {
+        &self.levels.workspace
+    }
+
     /// The greatest reservation that was accepted, or 0.
     pub fn room(&self) -> u64
         ensures room { result ≡ self.now.room }

@@ -1,4 +1,4 @@
-use Rattle.std.proofs.Common.{◌≡◌, [], ◌∷◌, ◌++◌, ◌+◌, OnOk, arith, sym, subst, ◌∙◌}
+use Rattle.std.proofs.Common.{[], ◌∷◌, ◌++◌, OnOk, sym, subst, ◌∙◌}
 use Rattle.batch_nest.specs.Reading.{TakesNestLine}
 use Rattle.batch_nest.proofs.OpenFacts.{IsOpenAt, open_begin, open_command}
 use Rattle.batch_nest.proofs.ReadingFacts.{read_nest_line}

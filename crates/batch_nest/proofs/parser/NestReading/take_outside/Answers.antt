@@ -1,4 +1,4 @@
-use Rattle.std.proofs.Common.{List, [], ◌∷◌, ◌++◌, None, ap, sym, subst, ◌∙◌}
+use Rattle.std.proofs.Common.{[], ◌∷◌, ◌++◌, None, ap, sym, subst, ◌∙◌}
 use Rattle.batch_script.specs.Reading.{first_numbers, first_word, listed, started}
 use Rattle.batch_nest.specs.Reading.{HaveRead}
 use Rattle.batch_nest.proofs.ReadingFacts.{read_reserve, read_show, stuck_outside_nests}
