@@ -45,7 +45,8 @@ command_is_no_begin command valid same =
     cc
 
 -- a line of a nest is known by what it is printed as
-pub same_nest_line : (line other : NestLine ℕ) → IsValidLine line → IsValidLine other → printed_line line ≡ printed_line other → line ≡ other
+pub same_nest_line : (line other : NestLine ℕ) → IsValidLine line → IsValidLine other → printed_line line ≡ printed_line other
+    → line ≡ other
 same_nest_line (CommandLine command) (CommandLine other) valid sound same =
     ap CommandLine (same_written_command command other valid sound same)
 same_nest_line (CommandLine command) BeginLine valid sound same = absurd (command_is_no_begin command valid same)

@@ -20,7 +20,8 @@ replied items = flat_map reply_lines (replies_over nest_bodies empty_state items
 -- a nest with an inner batch that is given up
 abbrev given_up : PlainNestItem
 given_up =
-    batch (then_command (Push 1) (then_inner (then_command (Push 2) (then_command (Alloc 5) done)) Abort (then_command (Push 3) done))) Commit
+    batch (then_command (Push 1) (then_inner (then_command (Push 2) (then_command (Alloc 5) done)) Abort (then_command (Push 3) done)))
+    Commit
 
 -- it is printed line by line
 printed : all_lines_over nest_printing (given_up ∷ show ∷ [])
@@ -31,8 +32,8 @@ printed = refl
 
 -- what stands outside of an inner abort stays
 inner_abort : replied (
-  batch (then_command (Push 1) (then_inner (then_command (Push 2) done) Abort (then_command (Push 3) done))) Commit ∷ show ∷ []
-) ≡ codes "ok" ∷ codes "ok" ∷ codes "committed" ∷ codes "list 1 3" ∷ codes "set" ∷ codes "table" ∷ codes "next 0" ∷ []
+    batch (then_command (Push 1) (then_inner (then_command (Push 2) done) Abort (then_command (Push 3) done))) Commit ∷ show ∷ []
+    ) ≡ codes "ok" ∷ codes "ok" ∷ codes "committed" ∷ codes "list 1 3" ∷ codes "set" ∷ codes "table" ∷ codes "next 0" ∷ []
 unfolding digits
 inner_abort = simp shows
 
@@ -50,8 +51,8 @@ all_given_up = simp shows
 
 -- a nest within the room
 within_the_room : replied (
-  reserve 3
-  ∷ batch (then_command (Push 1) (then_inner (then_command (Push 2) done) Abort (then_command (Push 3) done))) Commit ∷ []
-) ≡ codes "reserved" ∷ codes "ok" ∷ codes "ok" ∷ codes "committed" ∷ []
+    reserve 3
+    ∷ batch (then_command (Push 1) (then_inner (then_command (Push 2) done) Abort (then_command (Push 3) done))) Commit ∷ []
+    ) ≡ codes "reserved" ∷ codes "ok" ∷ codes "ok" ∷ codes "committed" ∷ []
 unfolding digits
 within_the_room = refl

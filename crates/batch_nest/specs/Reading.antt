@@ -68,4 +68,5 @@ HasReadNests reading lines = HaveRead reading.items.items reading.begun lines
 -- where the reading had taken lines and begun this nest, it takes this line of it behind them
 abbrev pub TakesNestLine : NestReading → OpenNest → NestReading → NestLine ℕ → Type 0
 TakesNestLine old begun new line =
-    (lines : List Line) → IsValidLine line → HaveRead old.items.items (Some begun) lines → HasReadNests new (lines ++ printed_line line ∷ [])
+    (lines : List Line) → IsValidLine line → HaveRead old.items.items (Some begun) lines
+    → HasReadNests new (lines ++ printed_line line ∷ [])

@@ -18,6 +18,10 @@
 //! [`laws`] say that a nest without inner batches has the course of the batch of its commands, that committed inner batches change
 //! nothing, what an inner abort leaves, that lines tell their body, and that a nest that fits a room fits every larger one.
 //!
+//! A script of nests is a script whose batches are nests: `nest_parse` returns its items, `nest_run` the text of its replies, and
+//! `nest_top` is the whole program, for which any word asks for the usage. `specs/Script` says what they are by the definitions of
+//! batch_script, which take how a body is printed and what it comes to. The clause `headline` of `nest_top` is the main theorem.
+//!
 //! **Out of memory.** `apply` and `reserve` return `Oom`, and the contents have not changed then. A nest that fits the room is
 //! never refused for memory: it has at most so many command lines and at most so many `Begin` lines as the room says, and no
 //! command passes the room where it stands. Values that aborted parts cut off count too. Reserve less, free something, or go on with
@@ -27,7 +31,7 @@
 //! given up, a set takes memory for all numbers up to its greatest one, and the values of a refused nest are dropped.
 //!
 //! **Cost.** A nest takes the time of its commands, and an inner abort that of the records that it undoes. An inner batch takes 8
-//! bytes while it is open; the depth takes no stack of the machine.
+//! bytes while it is open; the depth takes no stack of the machine, and no memory of its own while a script is read.
 #![tactic(auto)]
 
 #[cfg(test)]
@@ -39,6 +43,8 @@ mod nest;
 mod parser;
 mod program;
 mod runner;
+#[cfg(test)]
+mod scripts;
 mod space;
 #[cfg(test)]
 mod tests;

@@ -10,8 +10,9 @@ ghost use Rattle.batch_nest.specs.Nest.{end_line};
 use crate::item::{NestItem, NestScript};
 use crate::nest::{Nest, NestLine};
 use batch_core::End;
-use batch_script::{LineReader, LineRefusal, Numbers, RunError, Start};
-use batch_script::{command_of, end_of, read_script, start_of};
+use batch_script::{
+    LineReader, LineRefusal, Numbers, RunError, Start, command_of, end_of, read_script, start_of,
+};
 use std::alloc::Global;
 use wic_base::OutOfMemory;
 use wic_vec::TryVec;

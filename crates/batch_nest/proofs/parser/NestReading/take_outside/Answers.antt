@@ -28,5 +28,6 @@ returns-in_ok-push-in-Some-Show-clause-ok c = λ lines line has was.
     let is = c.in-Some-Show.field-0-is in
     subst (λ begun. HaveRead c.push-in-Some-Show.new.self.items begun (lines ++ line ∷ [])) (sym c.requires.none)
     (subst (λ items. HaveRead items None (lines ++ line ∷ [])) (sym c.in_ok-push-in-Some-Show.ensures.last)
-    (read_show items lines line c.args.word.now (listed c.args.numbers) (subst (λ begun. HaveRead items begun lines) c.requires.none was) has
+    (read_show items lines line c.args.word.now (listed c.args.numbers)
+    (subst (λ begun. HaveRead items begun lines) c.requires.none was) has
     (some.0 ∙ ap (λ start. first_word (started start)) is) (some.1 ∙ ap (λ start. first_numbers (started start)) is)))
