@@ -50,7 +50,8 @@ returns-in-Some g c =
       answered =
           answered_by meaning.bodies c.push_refusal.result (batch body ending) old new c.args.text.now.bytes c.push_refusal.new.text.bytes
           (answered (refused (record { cause = refusal.cause; at = refusal.at })))
-          (refused_step meaning.bodies old new body ending c.apply.ensures.room refusal.cause refusal.at c.in-Some.why is applied.0 applied.1)
+          (refused_step meaning.bodies old new body ending c.apply.ensures.room refusal.cause refusal.at c.in-Some.why is applied.0
+          applied.1)
           (rw (cause_text-kind refusal.cause c.in-Some.why is) c.push_refusal.ensures.line);
     }
 
