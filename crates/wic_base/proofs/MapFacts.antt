@@ -1,6 +1,6 @@
 -- Maps of numbers: what reads find after a write and a removal, what these undo, and the pairs in ascending order.
-use Rattle.std.proofs.Common.{◌&&◌, ◌<◌, ◌≤◌, ◌≡◌, ◌≢◌, ◌+◌, ◌-◌, ℕ, zero, suc, Bool, T, true, false, true≢false, Option, Some, None, is_some}
-use Rattle.std.proofs.Common.{List, [], ◌∷◌, inl, inr, refl, sym, ap, ◌∙◌, arith, nat_cmp}
+use Rattle.std.proofs.Common.{◌&&◌, ◌<◌, ◌≤◌, ◌≡◌, ◌≢◌, ◌+◌, ◌-◌, ℕ, zero, suc, Bool, T, true, false, true≢false}
+use Rattle.std.proofs.Common.{Option, Some, None, is_some, List, [], ◌∷◌, inl, inr, refl, sym, ap, ◌∙◌, arith, nat_cmp}
 use Rattle.std.proofs.lemmas.Bool.{cases_eq, cases_lt}
 use Rattle.std.proofs.lemmas.Bool.Decides.{nat_tests}
 use Rattle.std.specs.Ordering.{eq_by_cmp, is_lt}

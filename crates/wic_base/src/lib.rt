@@ -19,8 +19,8 @@
 //! **Out of memory.** No call of this crate allocates. A call of another crate that finds no memory returns `OutOfMemory`,
 //! and its contract says what it leaves.
 //!
-//! **Limits.** A guard is only as good as its function: what that doesn't undo stays. A guard must be spent, so it can't be
-//! forgotten, but nothing says in which of its two ways. An `OutOfMemory` tells what was asked for, and not what there is.
+//! **Limits.** A guard is only as good as its function: what that doesn't undo stays. A guard can't be forgotten, since it
+//! must be committed or rolled back, but nothing says which. An `OutOfMemory` tells what was asked for, and not what there is.
 //!
 //! **Costs.** Each call takes a few instructions; a guard moves its value in and out, and nothing behind it.
 #![tactic(auto)]

@@ -9,7 +9,7 @@ ghost use Rattle.std.specs.Borrow.{sem};
 /// invariant of the value's type.
 ///
 /// A contract sees the held value, `inner`, and the function, `undo`. A port of `wasmtime_internal_core::undo::Undo`, which
-/// rolls back where it is dropped.
+/// calls its function when it is dropped without having been committed.
 ///
 /// A counter that is put back when one of its steps is refused: `inc_n` in `src/callers.rt`, proved from these contracts.
 pub struct Undo<T, F, R>

@@ -39,7 +39,7 @@ pub(crate) enum Stop<E> {
     Ended,
     /// An item was this error.
     Error(E),
-    /// An item was read, and no memory was got for it.
+    /// An item was read, and there was no memory for it.
     Refused(OutOfMemory),
 }
 

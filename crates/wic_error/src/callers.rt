@@ -42,7 +42,8 @@ impl Kind for Trouble {
 // The place of a device.
 fn find(alloc: Global, devices: &[u64], id: u64) -> Result<usize, Error<Trouble>>
     ensures found { IfOk result (λ place. slice_get devices.now place ≡ Some id) }
-    ensures missing { IfErr result (λ error. (error ≡ links (NoDevice id) []) ⊎ IsTrue (is_oom error)) }
+    ensures missing { IfErr result (λ error.
+        (error ≡ links (NoDevice id) []) ⊎ IsTrue (is_oom error)) }
 {
     let place = devices.iter().position(|device| *device == id);
     place.context(alloc, Trouble::NoDevice(id))
@@ -67,7 +68,8 @@ pub fn tells<K: Kind>(error: &Error<K>, number: u32) -> bool
 // One line that tells all of it.
 pub fn told(alloc: Global, error: &Error<Trouble>, id: u64) -> Result<TryString, OutOfMemory>
     requires { error.now ≡ links Launching (NoDevice id ∷ []) }
-    ensures told { IfOk result (λ text. text.bytes ≡ codes "aborting launch: no device " ++ decimal id) }
+    ensures told { IfOk result (λ text.
+        text.bytes ≡ codes "aborting launch: no device " ++ decimal id) }
 {
     error.line(alloc)
 }

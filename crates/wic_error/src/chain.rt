@@ -27,7 +27,8 @@ impl<'a, K: Kind> ChainItem<'a, K> {
     /// Puts the text of this item at the end of `out`: that of the link, or the Display text of out of memory. If it is
     /// refused, a prefix of it may stand there.
     pub fn push_text(&self, out: &mut TryString) -> Result<(), OutOfMemory>
-        ensures whole { OnOk result (out.new.bytes ≡ out.old.bytes ++ item_text K.text (item_of self.now)) }
+        ensures whole { OnOk result
+            (out.new.bytes ≡ out.old.bytes ++ item_text K.text (item_of self.now)) }
     {
         match self {
             ChainItem::Link(link) => link.push_text(out),

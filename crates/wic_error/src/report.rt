@@ -68,7 +68,8 @@ impl<K: Kind> Error<K> {
 /// Puts the texts of these links at the end, the last first, each behind a colon and a space.
 fn push_joined<K: Kind>(causes: &[K], text: &mut TryString) -> Result<(), OutOfMemory>
     ensures joined { OnOk result (text.new.bytes
-        ≡ text.old.bytes ++ flat_map (λ cause. codes ": " ++ cause) (map K.text (reverse causes.now))) }
+        ≡ text.old.bytes
+        ++ flat_map (λ cause. codes ": " ++ cause) (map K.text (reverse causes.now))) }
 {
     let mut rest = causes;
     while let Some((cause, older)) = rest.split_last() {

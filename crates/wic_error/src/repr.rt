@@ -64,7 +64,8 @@ impl<K> Repr<K> {
 
 /// The place of the newest of these links that has the number. The oldest lies first.
 pub(crate) fn newest_with<K: Kind>(links: &[K], number: u32) -> Option<usize>
-    ensures newest { MatchOption result (find (λ k. K.number k == number) (reverse links.now) ≡ None)
+    ensures newest { MatchOption result
+        (find (λ k. K.number k == number) (reverse links.now) ≡ None)
         (IsNewestWith (λ k. K.number k == number) links.now) }
 {
     let mut rest = links;

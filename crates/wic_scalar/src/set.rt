@@ -105,8 +105,18 @@ impl<T: ScalarBitSetStorage> ScalarBitSet<T> {
         if !self.contains(i) {
             return false;
         }
-        self.0 = self.0.bit_and(T::bit(i).bit_not());
+        self.take_out(i);
         true
+    }
+
+    // Takes `i` out, and doesn't look whether it was there.
+    #[inline]
+    fn take_out(&mut self, i: u8)
+        requires { i < T.width }
+        ensures { set_of T.width (T.number self.new.0)
+            ≡ fin_set.remove (set_of T.width (T.number self.old.0)) i }
+    {
+        self.0 = self.0.bit_and(T::bit(i).bit_not());
     }
 
     /// Takes every member out.
@@ -129,7 +139,7 @@ impl<T: ScalarBitSetStorage> ScalarBitSet<T> {
     {
         match self.min() {
             Some(least) => {
-                self.remove(least);
+                self.take_out(least);
                 Some(least)
             }
             None => None,
@@ -148,7 +158,7 @@ impl<T: ScalarBitSetStorage> ScalarBitSet<T> {
     {
         match self.max() {
             Some(most) => {
-                self.remove(most);
+                self.take_out(most);
                 Some(most)
             }
             None => None,

@@ -1,4 +1,4 @@
-//! Values put on the heap, where the allocation may fail.
+//! Values on the heap, if there is memory for them.
 ghost use Rattle.std.specs.Prelude.{◌≡◌, IfOk};
 
 use std::alloc::Global;

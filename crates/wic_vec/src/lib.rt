@@ -15,9 +15,9 @@
 //! counterpart in Rust. For a caller of `retain`, `retain_mut` or `resize_with` the lemmas in `proofs/ClosureRuns` say
 //! what becomes of the elements.
 //!
-//! **Out of memory.** Below the capacity nothing is refused, so reserve first what must not fail later. After a refusal
-//! the value is as before, except for `resize`, which leaves the copies that it made. A value that was to be pushed is
-//! dropped.
+//! **Out of memory.** Below the capacity no growth is refused, so reserve first what must not fail later. A copy of an
+//! element may still want memory of its own, in `resize` and `from_clones`. After a refusal the value is as before,
+//! except for `resize`, which leaves the copies that it made. A value that was to be pushed is dropped.
 //!
 //! **Limits.** No contract says when the allocator has memory, nor in which order elements are dropped, nor how much more
 //! than asked for `reserve` takes. `extend_from_slice`, `push_str` and the like take what they are given: bound untrusted

@@ -1,4 +1,4 @@
-//! Copies of values, where making one may fail for memory.
+//! Copies of values, if there is memory for them.
 ghost use Rattle.std.specs.Prelude.{⊤, ◌≡◌, IsOk, IfOk, IfSome, MatchResult};
 ghost use Rattle.std.specs.List.{AllZip};
 ghost use Rattle.wic_vec.specs.Same.{SameOption, SameResult};

@@ -301,7 +301,7 @@ impl<T> IndexMut<usize> for TryVec<T> {
     }
 }
 
-// The refusal of `additional` more elements beside `length` of them: it tells the bytes that all of them take.
+// The refusal of room for `additional` more elements than `length`. It holds the bytes that all of them would take.
 fn wanting<T>(length: usize, additional: usize) -> OutOfMemory {
     OutOfMemory::new(
         length
@@ -310,7 +310,7 @@ fn wanting<T>(length: usize, additional: usize) -> OutOfMemory {
     )
 }
 
-// How many bytes a value takes: fewer than 2 to the power 63, as all that lies in memory.
+// How many bytes an element takes: fewer than 2 to the power 63.
 fn size_of_element<T>() -> usize
     ensures { FitsInMemory T.row → result ≡ type_size T.row }
 {
