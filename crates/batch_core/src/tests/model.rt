@@ -258,6 +258,7 @@ impl Trial {
 #[test]
 fn random_batches_do_what_the_plain_model_does(rt: HostRuntime) -> Result<(), Fail> {
     let alloc = rt.alloc();
-    assert!(rt; Trial::new(alloc).agrees_each_time(alloc)?);
+    let result = Trial::new(alloc).agrees_each_time(alloc);
+    assert!(rt; result?);
     Ok(())
 }
