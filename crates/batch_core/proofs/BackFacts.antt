@@ -42,13 +42,15 @@ module _ {X : Type 0} where
   undo_all-append [] ys c = refl
   undo_all-append (x ∷ xs) ys c = ap (undo_record x) (undo_all-append xs ys c)
 
+  -- of the values that are cut off the first is cut last
+  cuts-more : (y : X) (ys : List X) → map {B = Record X} Cut (reverse (y ∷ ys)) ≡ map Cut (reverse ys) ++ Cut y ∷ []
+  cuts-more y ys = ap (map Cut) (reverse-append (y ∷ []) ys) ∙ map-append Cut (reverse ys) (y ∷ [])
+
   -- values that were cut off come back in their order
   pub undo_cuts : (ys : List X) (c : Contents X) → undo_all (map Cut (reverse ys)) c ≡ record c { list = c.list ++ ys }
   undo_cuts [] c = ap (λ l. record c { list = l }) (sym (append-nil c.list))
   undo_cuts (y ∷ ys) c =
-      let apart : map {B = Record X} Cut (reverse (y ∷ ys)) ≡ map Cut (reverse ys) ++ Cut y ∷ [] =
-      ap (map Cut) (reverse-append (y ∷ []) ys) ∙ map-append Cut (reverse ys) (y ∷ []) in
-      ap (λ rs. undo_all rs c) apart ∙ undo_all-append (map Cut (reverse ys)) (Cut y ∷ []) c
+      ap (λ rs. undo_all rs c) (cuts-more y ys) ∙ undo_all-append (map Cut (reverse ys)) (Cut y ∷ []) c
       ∙ undo_cuts ys (record c { list = c.list ++ y ∷ [] })
       ∙ ap (λ l. record c { list = l }) (append_assoc c.list (y ∷ []) ys)
 
@@ -164,11 +166,9 @@ module _ {X : Type 0} where
       → CanGoBack within (map Cut (reverse ys)) c
   can_cuts within [] c room = tt
   can_cuts within (y ∷ ys) c room =
-      let apart : map {B = Record X} Cut (reverse (y ∷ ys)) ≡ map Cut (reverse ys) ++ Cut y ∷ [] =
-      ap (map Cut) (reverse-append (y ∷ []) ys) ∙ map-append Cut (reverse ys) (y ∷ []) in
       let more : length (c.list ++ y ∷ []) + length ys ≤ within.list = omega (arith, length-append c.list (y ∷ [])) in
       let first : length c.list < within.list = omega arith in
-      subst (λ rs. CanGoBack within rs c) (sym apart)
+      subst (λ rs. CanGoBack within rs c) (sym (cuts-more y ys))
       (can_append within (map Cut (reverse ys)) (Cut y ∷ []) c (tt, first)
       (can_cuts within ys (record c { list = c.list ++ y ∷ [] }) more))
 

@@ -14,19 +14,7 @@ module _ {X : Type 0} where
   going_back_kept w rs all c after records contents can =
       subst (λ l. CanGoBack w l after) (sym records) (subst (CanGoBack w rs) (sym contents) can)
 
-  -- if contents and records stay
-  pub ready_kept : (old new : Workspace X) → new.contents ≡ old.contents → new.records ≡ old.records → new.room ≡ old.room
-      → Grows old.capacities new.capacities → IsReady old → IsReady new
-  ready_kept old new contents records room grows ready = record {
-    back = going_back_kept new.capacities old.records new.records old.contents new.contents records contents
-        (can_grow old.capacities new.capacities grows old.records old.contents ready.back);
-    list = omega (arith, ready.list, grows.list, room);
-    set = omega (arith, ready.set, grows.set, room);
-    table = omega (arith, ready.table, grows.table, room);
-    records = omega (arith, ready.records, grows.records, room);
-  }
-
-  -- if they stay and the room is larger
+  -- if contents and records stay, and no capacity is below the room
   pub ready_reserved : (old new : Workspace X) → new.contents ≡ old.contents → new.records ≡ old.records → new.room ≤ new.capacities.list
       → new.room ≤ new.capacities.set → new.room ≤ new.capacities.table → new.room ≤ new.capacities.records
       → Grows old.capacities new.capacities → IsReady old → IsReady new
@@ -38,6 +26,13 @@ module _ {X : Type 0} where
     table = table;
     records = record_room;
   }
+
+  -- if contents, records and room stay
+  pub ready_kept : (old new : Workspace X) → new.contents ≡ old.contents → new.records ≡ old.records → new.room ≡ old.room
+      → Grows old.capacities new.capacities → IsReady old → IsReady new
+  ready_kept old new contents records room grows ready =
+      ready_reserved old new contents records (omega (arith, ready.list, grows.list, room)) (omega (arith, ready.set, grows.set, room))
+      (omega (arith, ready.table, grows.table, room)) (omega (arith, ready.records, grows.records, room)) grows ready
 
   -- if a command took effect
   pub ready_done : (old new : Workspace X) (command : Command X) → IsDone old command new → cause_of old.contents command ≡ None

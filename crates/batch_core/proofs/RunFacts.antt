@@ -1,16 +1,20 @@
 -- A batch, command after command.
 use Rattle.std.proofs.Common.{◌≡◌, ℕ, zero, suc, ◌+◌, ◌-◌, ◌<◌, ◌≤◌, List, [], ◌∷◌, ◌++◌, length, take, Option, Some, None, refl, sym, ap}
-use Rattle.std.proofs.Common.{subst, ◌∙◌, arith, length-append, length-set, length-take}
+use Rattle.std.proofs.Common.{⊎_elim, ◌⊎◌, inl, inr, subst, ◌∙◌, arith, length-append, length-set, length-take}
 use Rattle.std.specs.Prelude.{slice_get, IfErr}
 use Rattle.std.specs.declared.result.Result.{Result}
 use Rattle.std.specs.declared.result.Result.TheVariants.{Ok, Err}
 use Rattle.std.specs.Option.{option_map}
-use Rattle.std.specs.FinMap.{get}
+use Rattle.std.specs.Ordering.{nat_cmp}
+use Rattle.std.specs.FinMap.{FinMap, get, len}
+use Rattle.std.specs.FinSet.{FinSet}
+use Rattle.wic_slab.specs.Order.{Order}
+use Rattle.wic_base.specs.Sets.{AllBelow}
 use Rattle.wic_base.proofs.MapFacts.{len-insert_again, len-remove_key}
 use Rattle.batch_core.specs.State.{Contents, IsSound}
 use Rattle.batch_core.specs.Command.{made_of, last_value, cause_of, effect_of, records_of}
-use Rattle.batch_core.specs.Back.{Grows, IsWithin, undo_all}
-use Rattle.batch_core.specs.Course.{Stand, Course, led_by, batch_course}
+use Rattle.batch_core.specs.Back.{Capacities, Grows, IsWithin, undo_all}
+use Rattle.batch_core.specs.Course.{Stand, Course, led_by}
 use Rattle.batch_core.specs.Batch.{BadCommand, Outcome, later_by, front_or_later, first_bad, unless_bad, ended}
 use Rattle.batch_core.specs.Batch.{outcome_of, committed, aborted, refused}
 use Rattle.batch_core.specs.Room.{cut_by, Passes, StaysWithin, Fits}
@@ -27,7 +31,8 @@ use Rattle.batch_core.specs.declared.command.End.{End}
 use Rattle.batch_core.specs.declared.command.End.TheVariants.{Commit, Abort}
 use Rattle.batch_core.specs.declared.record.Record.{Record}
 use Rattle.batch_core.specs.declared.record.Record.TheVariants.{Popped, Replaced, Freed, Put as Overwritten}
-use Rattle.batch_core.proofs.SetFacts.{below-insert, contains-remove_less}
+use Rattle.wic_base.proofs.SetFacts.{was_before_remove}
+use Rattle.batch_core.proofs.SetFacts.{below-insert}
 use Rattle.batch_core.proofs.CourseFacts.{cut_off, cut_off-more, first_bad-append, first_bad-more, within-more, within-take, take-front}
 use Rattle.batch_core.proofs.CourseFacts.{after_front, after_front-led}
 use Rattle.batch_core.proofs.BackFacts.{admitted, count_cuts, undo_all-append, undoing_goes_back}
@@ -62,70 +67,6 @@ module _ {X : Type 0} where
   count_records c (Remove number) = omega arith
   count_records c (Truncate kept) = omega (arith, count_cuts c kept)
 
-  one_record : (s : Workspace X) (command : Command X) (count : ℕ) → cut_by s.contents command ≡ 0 → length s.records + 1 ≤ count
-      → count ≤ s.capacities.records → length s.records + length (records_of s.contents command) ≤ s.capacities.records
-  one_record s command count uncut few room = omega (arith, count_records s.contents command)
-
-  -- a command that doesn't pass the room is never refused for memory
-  pub has_room : (s : Workspace X) (command : Command X) (count : ℕ) → IsReady s → IsWithin s.capacities s.contents
-      → cause_of s.contents command ≡ None → (¬ Passes s.room count s.contents command) → length s.records + 1 ≤ count
-      → count ≤ s.capacities.records → HasRoom s command
-  has_room s (Push value) count ready within none stays few room = record {
-    list = omega (arith, not_beyond s.room _ stays, ready.list);
-    set = within.set;
-    table = within.table;
-    records = one_record s (Push value) count refl few room;
-  }
-  has_room s Pop count ready within none stays few room = record {
-    list = omega (arith, length-take (length s.contents.list - 1) s.contents.list, within.list);
-    set = within.set;
-    table = within.table;
-    records = one_record s Pop count refl few room;
-  }
-  has_room s (Set at value) count ready within none stays few room = record {
-    list = omega (arith, length-set s.contents.list at value, within.list);
-    set = within.set;
-    table = within.table;
-    records = one_record s (Set at value) count refl few room;
-  }
-  has_room s (Alloc value) count ready within none stays few room = record {
-    list = within.list;
-    set = within.set;
-    table = omega (arith, not_beyond s.room _ stays, ready.table);
-    records = one_record s (Alloc value) count refl few room;
-  }
-  has_room s (Free id) count ready within none stays few room = record {
-    list = within.list;
-    set = within.set;
-    table = omega (arith, len-remove_key s.contents.live id (admitted _ _ none), within.table);
-    records = one_record s (Free id) count refl few room;
-  }
-  has_room s (Put id value) count ready within none stays few room = record {
-    list = within.list;
-    set = within.set;
-    table = omega (arith, len-insert_again s.contents.live id value (admitted _ _ none), within.table);
-    records = one_record s (Put id value) count refl few room;
-  }
-  has_room s (Insert number) count ready within none stays few room = record {
-    list = within.list;
-    set = below-insert s.contents.set number s.capacities.set within.set (omega (arith, not_at_most s.room number stays, ready.set));
-    table = within.table;
-    records = one_record s (Insert number) count refl few room;
-  }
-  has_room s (Remove number) count ready within none stays few room = record {
-    list = within.list;
-    set = λ q member. within.set q (contains-remove_less s.contents.set number q member);
-    table = within.table;
-    records = one_record s (Remove number) count refl few room;
-  }
-  has_room s (Truncate kept) count ready within none stays few room =
-      let cut = not_beyond s.room _ stays in record {
-        list = omega (arith, length-take kept s.contents.list, within.list);
-        set = within.set;
-        table = within.table;
-        records = omega (arith, count_records s.contents (Truncate kept), cut, ready.records, few);
-      }
-
   -- what is counted for the records stays within their capacity
   pub count_stays : (s : Workspace X) (command : Command X) (count : ℕ) → IsReady s → (¬ Passes s.room count s.contents command)
       → count ≤ s.capacities.records → count + cut_by s.contents command ≤ s.capacities.records
@@ -138,6 +79,52 @@ module _ {X : Type 0} where
   count_stays s (Insert number) count ready stays room = omega arith
   count_stays s (Remove number) count ready stays room = omega arith
   count_stays s (Truncate kept) count ready stays room = omega (arith, not_beyond s.room _ stays, ready.records)
+
+  -- another list, set or table within the capacities
+  with_list : {w : Capacities} {c : Contents X} (l : List X) → IsWithin w c → length l ≤ w.list → IsWithin w (record c { list = l })
+  with_list l within room = record { list = room; set = within.set; table = within.table }
+
+  with_set : {w : Capacities} {c : Contents X} (s : FinSet nat_cmp) → IsWithin w c → AllBelow w.set s → IsWithin w (record c { set = s })
+  with_set s within room = record { list = within.list; set = room; table = within.table }
+
+  with_table : {w : Capacities} {c : Contents X} (live : FinMap nat_cmp X) (order : Order) → IsWithin w c → len live ≤ w.table
+      → IsWithin w (record c { live = live; order = order })
+  with_table live order within room = record { list = within.list; set = within.set; table = room }
+
+  -- an admitted command that doesn't pass the room keeps list, set and table within the capacities
+  effect_within : (s : Workspace X) (command : Command X) (count : ℕ) → IsReady s → IsWithin s.capacities s.contents
+      → cause_of s.contents command ≡ None → (¬ Passes s.room count s.contents command)
+      → IsWithin s.capacities (effect_of s.contents command)
+  effect_within s (Push value) count ready within none stays = with_list _ within (omega (arith, not_beyond s.room _ stays, ready.list))
+  effect_within s Pop count ready within none stays =
+      with_list _ within (omega (arith, length-take (length s.contents.list - 1) s.contents.list, within.list))
+  effect_within s (Set at value) count ready within none stays =
+      with_list _ within (omega (arith, length-set s.contents.list at value, within.list))
+  effect_within s (Alloc value) count ready within none stays =
+      with_table _ _ within (omega (arith, not_beyond s.room _ stays, ready.table))
+  effect_within s (Free id) count ready within none stays =
+      with_table _ _ within (omega (arith, len-remove_key s.contents.live id (admitted _ _ none), within.table))
+  effect_within s (Put id value) count ready within none stays =
+      with_table _ _ within (omega (arith, len-insert_again s.contents.live id value (admitted _ _ none), within.table))
+  effect_within s (Insert number) count ready within none stays =
+      with_set _ within (below-insert s.contents.set number s.capacities.set within.set
+      (omega (arith, not_at_most s.room number stays, ready.set)))
+  effect_within s (Remove number) count ready within none stays =
+      with_set _ within (λ q member. within.set q (was_before_remove s.contents.set number q member))
+  effect_within s (Truncate kept) count ready within none stays =
+      with_list _ within (omega (arith, length-take kept s.contents.list, within.list))
+
+  -- so it has room, and is never refused for memory
+  pub has_room : (s : Workspace X) (command : Command X) (count : ℕ) → IsReady s → IsWithin s.capacities s.contents
+      → cause_of s.contents command ≡ None → (¬ Passes s.room count s.contents command) → length s.records + 1 ≤ count
+      → count ≤ s.capacities.records → HasRoom s command
+  has_room s command count ready within none stays few room =
+      let effect = effect_within s command count ready within none stays in record {
+        list = effect.list;
+        set = effect.set;
+        table = effect.table;
+        records = omega (arith, count_records s.contents command, count_stays s command count ready stays room, few);
+      }
 
   -- how far a course has come from the first workspace: so many commands are done, which led to this workspace, and this course is
   -- to come
@@ -213,12 +200,6 @@ module _ {X : Type 0} where
         };
       }
 
-  -- if nothing is to come, no command was bad
-  pub along_end : (whole : Course X) (first now : Workspace X) (at : ℕ) → IsAlong whole first now (batch_course now.contents []) at
-      → first_bad whole.stands ≡ None
-  along_end whole first now at along =
-      ap (λ course. first_bad course.stands) along.course ∙ first_bad-append along.front [] along.good
-
   bad_here : (whole : Course X) (first now : Workspace X) (command : Command X) (later : Course X) (ending : End) (at : ℕ) (cause : Cause)
       → IsAlong whole first now (led_by now.contents command later) at → cause_of now.contents command ≡ Some cause
       → outcome_of first.contents whole ending ≡ (refused (record { cause = cause; at = at + 1 }), first.contents)
@@ -288,25 +269,25 @@ module _ {X : Type 0} where
       subst (λ r. RefusedFor r d (course d) ending cause at) same_room
       (subst (λ k. RefusedFor room k (course k) ending cause at) same was)
 
+  -- a refusal is for memory, or the outcome is the refusal of this command
+  refused_cases : (room : ℕ) (c : Contents X) (course : Course X) (ending : End) (cause : Cause) (at : ℕ)
+      → RefusedFor room c course ending cause at
+      → (IsOom cause × IsShort room course.stands at)
+      ⊎ ((¬ IsOom cause) × (outcome_of c course ending ≡ (refused (record { cause = cause; at = at }), c)))
+  refused_cases room c course ending Empty at is = inr ((λ oom. oom), is)
+  refused_cases room c course ending Position at is = inr ((λ oom. oom), is)
+  refused_cases room c course ending Vacant at is = inr ((λ oom. oom), is)
+  refused_cases room c course ending Full at is = inr ((λ oom. oom), is)
+  refused_cases room c course ending TooLarge at is = inr ((λ oom. oom), is)
+  refused_cases room c course ending (Oom size) at is = inl (tt, is)
+
   -- a batch that fits the room isn't refused for memory
   pub never_refused : (room : ℕ) (c : Contents X) (course : Course X) (ending : End) (cause : Cause) (at : ℕ)
       → RefusedFor room c course ending cause at → Fits room course.stands → ¬ IsOom cause
-  never_refused room c course ending Empty at is fits = λ oom. oom
-  never_refused room c course ending Position at is fits = λ oom. oom
-  never_refused room c course ending Vacant at is fits = λ oom. oom
-  never_refused room c course ending Full at is fits = λ oom. oom
-  never_refused room c course ending TooLarge at is fits = λ oom. oom
-  never_refused room c course ending (Oom size) at is fits = absurd (short_beyond room course.stands at is fits)
-
-  refused_contents : (old : Workspace X) (course : Course X) (ending : End) (cause : Cause) (at : ℕ)
-      → RefusedFor old.room old.contents course ending cause at → (¬ IsOom cause)
-      → old.contents ≡ (outcome_of old.contents course ending).1
-  refused_contents old course ending Empty at is found = sym (ap (λ p. p.1) is)
-  refused_contents old course ending Position at is found = sym (ap (λ p. p.1) is)
-  refused_contents old course ending Vacant at is found = sym (ap (λ p. p.1) is)
-  refused_contents old course ending Full at is found = sym (ap (λ p. p.1) is)
-  refused_contents old course ending TooLarge at is found = sym (ap (λ p. p.1) is)
-  refused_contents old course ending (Oom size) at is found = absurd (found tt)
+  never_refused room c course ending cause at is fits = ⊎_elim
+      (λ short. absurd (short_beyond room course.stands at short.1 fits))
+      (λ bad. bad.0)
+      (refused_cases room c course ending cause at is)
 
   -- a batch that isn't refused for memory leaves what its outcome says
   pub applied_contents : (old new : Workspace X) (course : Course X) (ending : End) (result : Result Done Refusal)
@@ -315,7 +296,10 @@ module _ {X : Type 0} where
   applied_contents old new course ending (Ok Committed) applied found = sym (ap (λ p. p.1) applied)
   applied_contents old new course ending (Ok Aborted) applied found = sym (ap (λ p. p.1) applied.0)
   applied_contents old new course ending (Err refusal) applied found =
-      applied.0 ∙ refused_contents old course ending refusal.cause refusal.at applied.2 found
+      applied.0 ∙ ⊎_elim
+      (λ short. absurd (found short.0))
+      (λ bad. sym (ap (λ p. p.1) bad.1))
+      (refused_cases old.room old.contents course ending refusal.cause refusal.at applied.2)
 
   not_refused : (c : Contents X) (course : Course X) (ending : End) (bad : BadCommand) → ended c course ending ≡ (refused bad, c) → ⊥
   not_refused c course Commit bad same = let differ : committed course.records ≡ refused bad = ap (λ p. p.0) same in cc
@@ -330,21 +314,14 @@ module _ {X : Type 0} where
   -- a batch that fits the room and has no bad command isn't refused
   pub never_refused_at_all : (room : ℕ) (c : Contents X) (course : Course X) (ending : End) (cause : Cause) (at : ℕ)
       → RefusedFor room c course ending cause at → Fits room course.stands → first_bad course.stands ≡ None → ⊥
-  never_refused_at_all room c course ending Empty at is fits none = bad_refused c course ending _ is none
-  never_refused_at_all room c course ending Position at is fits none = bad_refused c course ending _ is none
-  never_refused_at_all room c course ending Vacant at is fits none = bad_refused c course ending _ is none
-  never_refused_at_all room c course ending Full at is fits none = bad_refused c course ending _ is none
-  never_refused_at_all room c course ending TooLarge at is fits none = bad_refused c course ending _ is none
-  never_refused_at_all room c course ending (Oom size) at is fits none = short_beyond room course.stands at is fits
+  never_refused_at_all room c course ending cause at is fits none = ⊎_elim
+      (λ short. short_beyond room course.stands at short.1 fits)
+      (λ bad. bad_refused c course ending _ bad.1 none)
+      (refused_cases room c course ending cause at is)
 
-  -- nor is a step of an admitted command that keeps within the room
-  pub step_never_refused : (s : Workspace X) (command : Command X) (cause : Cause) → IsReady s → IsWithin s.capacities s.contents
-      → IsCauseOf s command cause → cause_of s.contents command ≡ None → KeepsWithin s command → ⊥
-  step_never_refused s command Empty ready within is none keeps = absurd (cc)
-  step_never_refused s command Position ready within is none keeps = absurd (cc)
-  step_never_refused s command Vacant ready within is none keeps = absurd (cc)
-  step_never_refused s command Full ready within is none keeps = absurd (cc)
-  step_never_refused s command TooLarge ready within is none keeps = absurd (cc)
-  step_never_refused s command (Oom size) ready within is none keeps =
+  -- an admitted command that keeps within the room has room
+  pub step_has_room : (s : Workspace X) (command : Command X) → IsReady s → IsWithin s.capacities s.contents
+      → cause_of s.contents command ≡ None → KeepsWithin s command → HasRoom s command
+  step_has_room s command ready within none keeps =
       let few = keeps.few in
-      is.1 (has_room s command (length s.records + 1) ready within is.0 keeps.within (omega arith) (omega (arith, few, ready.records)))
+      has_room s command (length s.records + 1) ready within none keeps.within (omega arith) (omega (arith, few, ready.records))

@@ -1,9 +1,6 @@
 -- What a contract sees of a workspace.
-use Rattle.std.specs.Prelude.{⊤, ◌≡◌, ℕ, ◌+◌, ◌≤◌, List, ◌++◌, length, Some, None, refl}
-use Rattle.std.specs.Coded.{Coded, code_by, coded×, coded_ℕ, coded_list}
-use Rattle.std.specs.Ordering.{nat_cmp}
-use Rattle.std.specs.FinMap.{FinMap, code, len}
-use Rattle.std.specs.FinSet.{FinSet, code as set_code}
+use Rattle.std.specs.Prelude.{⊤, ◌≡◌, ℕ, ◌+◌, ◌≤◌, List, ◌++◌, length, Some, None}
+use Rattle.std.specs.FinMap.{len}
 use Rattle.batch_core.specs.State.{Contents}
 use Rattle.batch_core.specs.Command.{cause_of, effect_of, records_of}
 use Rattle.batch_core.specs.Back.{Capacities, CanGoBack}
@@ -20,31 +17,6 @@ pub record Workspace (T : Type 0) : Type 0 where
   pub records : List (Record T)
   pub room : ℕ
   pub capacities : Capacities
-
--- a workspace is stored as the tuple of its fields
-abbrev pub workspace_code : {T : Type 0} → Coded T → Coded (Record T) → Coded (Workspace T)
-workspace_code {T} value one_record =
-    code_by
-    ((List T × (FinSet nat_cmp × (FinMap nat_cmp T × (List ℕ × ℕ)))) × (List (Record T) × (ℕ × (ℕ × (ℕ × (ℕ × ℕ))))))
-    (coded× (coded× (coded_list value)
-    (coded× (set_code coded_ℕ) (coded× (code coded_ℕ value) (coded× (coded_list coded_ℕ) coded_ℕ))))
-    (coded× (coded_list one_record) (coded× coded_ℕ (coded× coded_ℕ (coded× coded_ℕ (coded× coded_ℕ coded_ℕ))))))
-    (λ s. (
-      (s.contents.list, (s.contents.set, (s.contents.live, (s.contents.order.vacant, s.contents.order.fresh)))),
-      (s.records, (s.room, (s.capacities.list, (s.capacities.set, (s.capacities.table, s.capacities.records))))),
-    ))
-    (λ p. record {
-      contents = record {
-        list = p.0.0;
-        set = p.0.1.0;
-        live = p.0.1.1.0;
-        order = record { vacant = p.0.1.1.1.0; fresh = p.0.1.1.1.1 };
-      };
-      records = p.1.0;
-      room = p.1.1.0;
-      capacities = record { list = p.1.1.1.0; set = p.1.1.1.1.0; table = p.1.1.1.1.1.0; records = p.1.1.1.1.1.1 };
-    })
-    (λ _. refl)
 
 -- out of memory
 abbrev pub IsOom : Cause → Type 0

@@ -5,6 +5,8 @@ use std::alloc::{AllocError, Global};
 use std::collections::{BTreeMap, BTreeSet};
 use std::test::Fail;
 use wic_base::OutOfMemory;
+use wic_bitset::CompoundBitSet;
+use wic_slab::Slab;
 use wic_vec::TryVec;
 
 // What the plain machine holds. Vacant ids are in the order in which they were given back.
@@ -45,44 +47,49 @@ impl Model {
     // Does one command, or returns false if it is bad.
     fn step(&mut self, command: &Command<u64>) -> Result<bool, AllocError> {
         match command {
-            Command::Push(value) => self.list.push(*value)?,
-            Command::Pop => return Ok(self.list.pop().is_some()),
-            Command::Set(at, value) => match self.list.get_mut(*at as usize) {
-                Some(place) => *place = *value,
-                None => return Ok(false),
-            },
-            Command::Alloc(value) => self.alloc(*value)?,
-            Command::Free(id) => return self.free(*id),
-            Command::Put(id, value) => match self.table.get_mut(id) {
-                Some(place) => *place = *value,
-                None => return Ok(false),
-            },
-            Command::Insert(number) => {
-                if *number > 4294967295 {
-                    return Ok(false);
-                }
-                self.set.insert(*number)?;
-            }
+            Command::Push(value) => self.push(*value),
+            Command::Pop => Ok(self.list.pop().is_some()),
+            Command::Set(at, value) => Ok(written(self.list.get_mut(*at as usize), *value)),
+            Command::Alloc(value) => self.alloc(*value),
+            Command::Free(id) => self.free(*id),
+            Command::Put(id, value) => Ok(written(self.table.get_mut(id), *value)),
+            Command::Insert(number) => self.insert(*number),
             Command::Remove(number) => {
                 self.set.remove(number);
+                Ok(true)
             }
-            Command::Truncate(kept) => {
-                if *kept as usize > self.list.len() {
-                    return Ok(false);
-                }
-                self.list.truncate(*kept as usize);
-            }
+            Command::Truncate(kept) => Ok(self.truncate(*kept as usize)),
         }
+    }
+
+    fn push(&mut self, value: u64) -> Result<bool, AllocError> {
+        self.list.push(value)?;
         Ok(true)
     }
 
-    fn alloc(&mut self, value: u64) -> Result<(), AllocError> {
+    fn insert(&mut self, number: u64) -> Result<bool, AllocError> {
+        if number > 4294967295 {
+            return Ok(false);
+        }
+        self.set.insert(number)?;
+        Ok(true)
+    }
+
+    fn truncate(&mut self, kept: usize) -> bool {
+        if kept > self.list.len() {
+            return false;
+        }
+        self.list.truncate(kept);
+        true
+    }
+
+    fn alloc(&mut self, value: u64) -> Result<bool, AllocError> {
         let id = self.next_id();
         if self.vacant.pop().is_none() {
             self.fresh = self.fresh.saturating_add(1);
         }
         self.table.insert(id, value)?;
-        Ok(())
+        Ok(true)
     }
 
     fn free(&mut self, id: u64) -> Result<bool, AllocError> {
@@ -107,21 +114,50 @@ impl Model {
         Ok(0)
     }
 
+    // What it holds after these commands, and the number of the first bad one, or 0.
+    fn foreseen(&self, commands: &[Command<u64>]) -> Result<(Model, u64), AllocError> {
+        let mut next = self.copied()?;
+        let bad = next.run(commands)?;
+        Ok((next, bad))
+    }
+
     fn is_held_by(&self, workspace: &Workspace<u64>) -> bool {
-        let mut members = workspace.set().iter();
-        let mut pairs = workspace.table().iter();
         workspace.list() == self.list.as_slice()
-            && self
-                .set
-                .iter()
-                .all(|number| members.next() == Some(*number as usize))
-            && members.next().is_none()
-            && self.table.iter().all(|(id, value)| match pairs.next() {
-                Some((held, found)) => u64::from(held.into_raw()) == *id && found == value,
-                None => false,
-            })
-            && pairs.next().is_none()
+            && self.has_members(workspace.set())
+            && self.has_pairs(workspace.table())
             && u64::from(workspace.table().next_id().into_raw()) == self.next_id()
+    }
+
+    fn has_members(&self, set: &CompoundBitSet<u64>) -> bool {
+        let mut members = set.iter();
+        for number in self.set.iter() {
+            if members.next() != Some(*number as usize) {
+                return false;
+            }
+        }
+        members.next().is_none()
+    }
+
+    fn has_pairs(&self, table: &Slab<u64>) -> bool {
+        let mut pairs = table.iter();
+        for (id, value) in self.table.iter() {
+            match pairs.next() {
+                Some((held, found)) if u64::from(held.into_raw()) == *id && found == value => {}
+                _ => return false,
+            }
+        }
+        pairs.next().is_none()
+    }
+}
+
+// Writes the value there, if there is a place.
+fn written(place: Option<&mut u64>, value: u64) -> bool {
+    match place {
+        Some(place) => {
+            *place = value;
+            true
+        }
+        None => false,
     }
 }
 
@@ -176,23 +212,53 @@ fn is_right(answer: &Result<Done, Refusal>, bad: u64, end: End) -> bool {
     }
 }
 
+// The plain model, a workspace, and the draws of the batches for both.
+#[derive(Drop)]
+struct Trial {
+    model: Model,
+    workspace: Workspace<u64>,
+    draws: Draws,
+}
+
+impl Trial {
+    fn new(alloc: Global) -> Trial {
+        Trial {
+            model: Model::new(alloc),
+            workspace: Workspace::new(alloc),
+            draws: Draws(7),
+        }
+    }
+
+    // Does one batch more, and returns whether the workspace says and holds what the model does.
+    fn agrees(&mut self, alloc: Global) -> Result<bool, Fail> {
+        let batch = self.draws.batch(alloc)?;
+        let end = batch.end;
+        let (next, bad) = self.model.foreseen(batch.commands.as_slice())?;
+        let answer = applied(&mut self.workspace, batch);
+        self.settle(next, matches!(&answer, Ok(Done::Committed)));
+        Ok(is_right(&answer, bad, end) && self.model.is_held_by(&self.workspace))
+    }
+
+    fn settle(&mut self, next: Model, is_committed: bool) {
+        if is_committed {
+            self.model = next;
+        }
+    }
+
+    fn agrees_each_time(&mut self, alloc: Global) -> Result<bool, Fail> {
+        for _ in 0..2000 {
+            if !self.agrees(alloc)? {
+                return Ok(false);
+            }
+        }
+        Ok(true)
+    }
+}
+
 #[test]
 fn random_batches_do_what_the_plain_model_does(rt: HostRuntime) -> Result<(), Fail> {
     let alloc = rt.alloc();
-    let mut model = Model::new(alloc);
-    let mut workspace = Workspace::new(alloc);
-    let mut draws = Draws(7);
-    for _ in 0..2000 {
-        let batch = draws.batch(alloc)?;
-        let end = batch.end;
-        let mut next = model.copied()?;
-        let bad = next.run(batch.commands.as_slice())?;
-        let answer = applied(&mut workspace, batch);
-        assert!(rt; is_right(&answer, bad, end));
-        if matches!(&answer, Ok(Done::Committed)) {
-            model = next;
-        }
-        assert!(rt; model.is_held_by(&workspace));
-    }
+    let result = Trial::new(alloc).agrees_each_time(alloc);
+    assert!(rt; result?);
     Ok(())
 }

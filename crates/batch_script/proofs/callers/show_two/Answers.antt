@@ -1,4 +1,4 @@
-use Rattle.std.proofs.Common.{◌≡◌, ◌∙◌, ◌++◌, ap, refl}
+use Rattle.std.proofs.Common.{◌≡◌, refl}
 use Rattle.std.specs.Prelude.{codes}
 use Rattle.std.specs.Fmt.{digits}
 use Rattle.batch_core.specs.Command.{effect_of}
@@ -17,9 +17,6 @@ two_shown = rw shows refl
 
 pub returns-in-Ok : goal.returns-in-Ok
 returns-in-Ok c = record {
-  shown = c.in-Ok.ensures.lines
-      ∙ ap (λ bytes. bytes ++ text_of_lines (reply_lines (shown_of c.step-2.new.self.contents))) c.new-text.ensures.empty
-      ∙ ap (λ contents. text_of_lines (reply_lines (shown_of contents))) (c.in_ok-step-2.ensures.done.effect
-      ∙ ap (λ contents. effect_of contents (Alloc 5)) (c.in_ok-step.ensures.done.effect
-      ∙ ap (λ contents. effect_of contents (Insert 3)) c.new-workspace.ensures.contents)) ∙ two_shown;
+  shown = rw (c.in-Ok.ensures.lines, c.new-text.ensures.empty) (rw (c.in_ok-step-2.ensures.done.effect, c.in_ok-step.ensures.done.effect)
+      (rw c.new-workspace.ensures.contents two_shown));
 }

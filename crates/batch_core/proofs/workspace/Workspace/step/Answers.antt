@@ -1,10 +1,8 @@
-use Rattle.std.proofs.Common.{◌≡◌, ◌≤◌, ℕ, length, None, sym, subst, true≢false}
+use Rattle.std.proofs.Common.{◌≡◌, ◌≤◌, ℕ, length, sym, subst, true≢false}
 use Rattle.batch_core.specs.Back.{back}
 use Rattle.batch_core.proofs.BackFacts.{back_after}
-use Rattle.batch_core.specs.Command.{cause_of}
 use Rattle.batch_core.specs.Workspace.{KeepsWithin}
-use Rattle.batch_core.specs.declared.command.Cause.TheVariants.{Oom}
-use Rattle.batch_core.proofs.RunFacts.{step_never_refused}
+use Rattle.batch_core.proofs.RunFacts.{step_has_room}
 use Rattle.batch_core.proofs.ReadyFacts.{ready_kept, ready_done}
 use Rattle.batch_core.proofs.workspace.Workspace.step.Goals as goal
 
@@ -30,8 +28,6 @@ returns-clause-back g c =
 
 pub returns-in-Err-clause-never_refused_within : goal.returns-in-Err-clause-never_refused_within
 returns-in-Err-clause-never_refused_within g c none keeps =
-    let command = c.args.command in
-    absurd (subst (λ v. cause_of v.contents command ≡ None → KeepsWithin v command → ⊥) c.self.view_is
-    (step_never_refused c.self.inside.store command (Oom c.in-Err.oom) c.self.invariant c.mark.ensures.within
-    (sym c.in_default.ensures.cause, λ room. true≢false (sym (c.in-Err.ensures.never_refused_within room))))
-    none keeps)
+    let room = step_has_room c.self.inside.store c.args.command c.self.invariant c.mark.ensures.within (sym c.in_default.ensures.cause)
+    (subst (λ v. KeepsWithin v c.args.command) (sym c.self.view_is) keeps) in
+    absurd (true≢false (sym (c.in-Err.ensures.never_refused_within room)))
