@@ -13,26 +13,23 @@ use Rattle.batch_script.specs.Grammar.{Printing, TellsBodies, ended_lines, print
 use Rattle.batch_script.specs.Laws.{LinesTellItemsOver}
 use Rattle.batch_script.specs.Reading.{has_space}
 use Rattle.batch_script.specs.ReadingLaws.{one_word}
-use Rattle.batch_script.proofs.LineFacts.{same_line}
+use Rattle.batch_script.proofs.LineFacts.{known_by_line, same_line}
 
 -- the command of a word and its numbers
-abbrev command_from : List ℕ → ℕ → ℕ → Command ℕ
-command_from word first second =
-    if bytes_eq word (codes "push") then Push first
+abbrev pub command_from : List ℕ → List ℕ → Command ℕ
+command_from word numbers =
+    if bytes_eq word (codes "push") then Push (get_or numbers 0 0)
     else if bytes_eq word (codes "pop") then Pop
-    else if bytes_eq word (codes "set") then Set first second
-    else if bytes_eq word (codes "alloc") then Alloc first
-    else if bytes_eq word (codes "free") then Free first
-    else if bytes_eq word (codes "put") then Put first second
-    else if bytes_eq word (codes "insert") then Insert first
-    else if bytes_eq word (codes "remove") then Remove first
-    else Truncate first
+    else if bytes_eq word (codes "set") then Set (get_or numbers 0 0) (get_or numbers 1 0)
+    else if bytes_eq word (codes "alloc") then Alloc (get_or numbers 0 0)
+    else if bytes_eq word (codes "free") then Free (get_or numbers 0 0)
+    else if bytes_eq word (codes "put") then Put (get_or numbers 0 0) (get_or numbers 1 0)
+    else if bytes_eq word (codes "insert") then Insert (get_or numbers 0 0)
+    else if bytes_eq word (codes "remove") then Remove (get_or numbers 0 0)
+    else Truncate (get_or numbers 0 0)
 
--- the command that these parts of it make
-abbrev made_again : Command ℕ → Command ℕ
-made_again command = command_from (word_of command) (get_or (numbers_of command) 0 0) (get_or (numbers_of command) 1 0)
-
-same_again : (command : Command ℕ) → made_again command ≡ command
+-- a command is made again of its word and its numbers
+same_again : (command : Command ℕ) → command_from (word_of command) (numbers_of command) ≡ command
 same_again (Push value) = refl
 same_again Pop = refl
 same_again (Set at value) = refl
@@ -59,15 +56,10 @@ no_end_word (Insert number) = refl
 no_end_word (Remove number) = refl
 no_end_word (Truncate kept) = refl
 
--- a command is known by its line
+-- so it is known by its line
 pub same_command : (command other : Command ℕ) → IsValidCommand command → IsValidCommand other → command_line command ≡ command_line other
     → command ≡ other
-same_command command other valid sound same =
-    let parts = same_line (word_of command) (word_of other) (numbers_of command) (numbers_of other) (one_word command)
-    (one_word other) valid sound same in
-    sym (same_again command)
-    ∙ (λ i. command_from (parts.0 i) (get_or (parts.1 i) 0 0) (get_or (parts.1 i) 1 0))
-    ∙ same_again other
+same_command = known_by_line word_of numbers_of one_word command_from same_again
 
 -- the line that ends a batch has no space, and is a word that ends a batch
 pub end_word : (ending : End) → (has_space (end_line ending) ≡ false) × (is_end (end_line ending) ≡ true)
