@@ -8,14 +8,16 @@ use Rattle.batch_core.specs.declared.command.Command.{Command}
 use Rattle.batch_core.specs.declared.command.End.{End}
 use Rattle.batch_core.specs.declared.command.End.TheVariants.{Commit}
 use Rattle.batch_script.specs.Machine.{ItemOf, PlainItem, reserve, show, batch}
-use Rattle.batch_script.specs.Grammar.{Line, IsOpen, IsScript, IsValidCommand, IsWritable, command_line, end_line, lines_of, numbers_of, word_of}
+use Rattle.batch_script.specs.Grammar.{Line, IsOpen, IsScript, IsValidCommand, IsWritable}
+use Rattle.batch_script.specs.Grammar.{command_line, end_line, lines_of, numbers_of, word_of}
 use Rattle.batch_script.specs.Grammar.{Printing, TellsBodies, IsOpenOver, IsScriptOver, IsScriptOfOver, IsValidItemOver}
 use Rattle.batch_script.specs.Grammar.{all_lines_over, batch_printing, printed_over}
 use Rattle.batch_script.specs.Reading.{AreRead, AreReadOver, HasParts, HasNoParts, first_numbers, first_word, has_space, open_lines_over}
 use Rattle.batch_script.specs.ReadingLaws.{AllByRecursion-append, few_numbers, one_word}
 use Rattle.batch_script.proofs.LineFacts.{line_of_none}
 use Rattle.batch_script.proofs.OpenFacts.{all_lines-append}
-use Rattle.batch_script.proofs.PrefixFacts.{GoesOn, HasWhole, StartsItem, begun_has_whole, next_in_batch, rest-after_items, starts_item, unended}
+use Rattle.batch_script.proofs.PrefixFacts.{GoesOn, HasWhole, StartsItem, begun_has_whole, next_in_batch}
+use Rattle.batch_script.proofs.PrefixFacts.{rest-after_items, starts_item, unended}
 use Rattle.batch_script.proofs.ScriptFacts.{batches_told, end_word}
 
 module _ {B O : Type 0} (printing : Printing B) (opened : Printing O) where

@@ -28,38 +28,27 @@ command_from word numbers =
     else if bytes_eq word (codes "remove") then Remove (get_or numbers 0 0)
     else Truncate (get_or numbers 0 0)
 
--- a command is made again of its word and its numbers
-same_again : (command : Command ℕ) → command_from (word_of command) (numbers_of command) ≡ command
-same_again (Push value) = refl
-same_again Pop = refl
-same_again (Set at value) = refl
-same_again (Alloc value) = refl
-same_again (Free id) = refl
-same_again (Put id value) = refl
-same_again (Insert number) = refl
-same_again (Remove number) = refl
-same_again (Truncate kept) = refl
-
 -- whether a word ends a batch
 abbrev is_end : List ℕ → Bool
 is_end word = bytes_eq word (codes "commit") || bytes_eq word (codes "abort")
 
--- the word of a command ends no batch
-pub no_end_word : (command : Command ℕ) → is_end (word_of command) ≡ false
-no_end_word (Push value) = refl
-no_end_word Pop = refl
-no_end_word (Set at value) = refl
-no_end_word (Alloc value) = refl
-no_end_word (Free id) = refl
-no_end_word (Put id value) = refl
-no_end_word (Insert number) = refl
-no_end_word (Remove number) = refl
-no_end_word (Truncate kept) = refl
+-- a command is made again of its word and its numbers, and its word ends no batch
+command_known : (command : Command ℕ) → (command_from (word_of command) (numbers_of command) ≡ command)
+    × (is_end (word_of command) ≡ false)
+command_known (Push value) = (refl, refl)
+command_known Pop = (refl, refl)
+command_known (Set at value) = (refl, refl)
+command_known (Alloc value) = (refl, refl)
+command_known (Free id) = (refl, refl)
+command_known (Put id value) = (refl, refl)
+command_known (Insert number) = (refl, refl)
+command_known (Remove number) = (refl, refl)
+command_known (Truncate kept) = (refl, refl)
 
 -- so it is known by its line
 pub same_command : (command other : Command ℕ) → IsValidCommand command → IsValidCommand other → command_line command ≡ command_line other
     → command ≡ other
-same_command = known_by_line word_of numbers_of one_word command_from same_again
+same_command = known_by_line word_of numbers_of one_word command_from (λ command. (command_known command).0)
 
 -- the line that ends a batch has no space, and is a word that ends a batch
 pub end_word : (ending : End) → (has_space (end_line ending) ≡ false) × (is_end (end_line ending) ≡ true)
@@ -71,7 +60,7 @@ pub command_is_no_end : (command : Command ℕ) (ending : End) → IsValidComman
 command_is_no_end command ending valid same =
     let parts = same_line (word_of command) (end_line ending) (numbers_of command) [] (one_word command)
     (end_word ending).0 valid tt same in
-    let not_end = no_end_word command in
+    let not_end = (command_known command).1 in
     let ends = (end_word ending).1 in
     let words = ap is_end parts.0 in
     cc

@@ -1,6 +1,6 @@
 -- Each line of a batch is a word with up to two numbers, and what was read begins a script.
-use Rattle.std.proofs.Common.{◌≡◌, ℕ, ◌≤◌, false, List, [], ◌∷◌, ◌++◌, length, map, refl, ap, arith, append_assoc, append-nil, Some, None}
-use Rattle.std.specs.Prelude.{Option, codes}
+use Rattle.std.proofs.Common.{◌≡◌, ℕ, ◌<◌, ◌≤◌, false, List, [], ◌∷◌, ◌++◌, length, map, refl, ap, arith, append_assoc, append-nil}
+use Rattle.std.specs.Prelude.{Option, Some, None, codes}
 use Rattle.std.specs.List.{AllByRecursion}
 use Rattle.std.proofs.lemmas.List.Concat.{flat_map-append}
 use Rattle.batch_core.specs.declared.command.Command.{Command}
@@ -8,6 +8,7 @@ use Rattle.batch_core.specs.declared.command.Command.TheVariants.{Push, Pop, Set
 use Rattle.batch_core.specs.declared.command.End.TheVariants.{Commit}
 use Rattle.batch_script.specs.declared.parser.Reading.{Reading}
 use Rattle.batch_script.specs.Machine.{ItemOf, batch}
+use Rattle.batch_script.specs.Front.{has_feed}
 use Rattle.batch_script.specs.Grammar.{Line, IsOpen, IsValidCommand, batch_printing, command_line, end_line, numbers_of, word_of}
 use Rattle.batch_script.specs.Grammar.{Printing, IsOpenOver, IsValidItemOver, all_lines_over, printed_over}
 use Rattle.batch_script.specs.Reading.{AreReadOver, CanEnd, HasPartsThroughout, HasRead, HasSomeParts, begun_in, has_space, plain_items}
@@ -18,29 +19,26 @@ pub AllByRecursion-append : {X : Type 0} (P : X → Type 0) (xs ys : List X) →
 AllByRecursion-append P [] ys h k = k
 AllByRecursion-append P (x ∷ xs) ys h k = (h.0, AllByRecursion-append P xs ys h.1 k)
 
+-- In the word of a command stand no space and no line feed, at most two numbers follow it, and its line isn't empty.
+pub command_facts : (command : Command ℕ) → (has_space (word_of command) ≡ false) × (has_feed (word_of command) ≡ false)
+    × (length (numbers_of command) ≤ 2) × (0 < length (command_line command))
+command_facts (Push value) = (refl, refl, omega arith, omega arith)
+command_facts Pop = (refl, refl, omega arith, omega arith)
+command_facts (Set at value) = (refl, refl, omega arith, omega arith)
+command_facts (Alloc value) = (refl, refl, omega arith, omega arith)
+command_facts (Free id) = (refl, refl, omega arith, omega arith)
+command_facts (Put id value) = (refl, refl, omega arith, omega arith)
+command_facts (Insert number) = (refl, refl, omega arith, omega arith)
+command_facts (Remove number) = (refl, refl, omega arith, omega arith)
+command_facts (Truncate kept) = (refl, refl, omega arith, omega arith)
+
 -- the word of a command has no space
 pub one_word : (command : Command ℕ) → has_space (word_of command) ≡ false
-one_word (Push value) = refl
-one_word Pop = refl
-one_word (Set at value) = refl
-one_word (Alloc value) = refl
-one_word (Free id) = refl
-one_word (Put id value) = refl
-one_word (Insert number) = refl
-one_word (Remove number) = refl
-one_word (Truncate kept) = refl
+one_word command = (command_facts command).0
 
 -- and at most two numbers follow it
 pub few_numbers : (command : Command ℕ) → length (numbers_of command) ≤ 2
-few_numbers (Push value) = omega arith
-few_numbers Pop = omega arith
-few_numbers (Set at value) = omega arith
-few_numbers (Alloc value) = omega arith
-few_numbers (Free id) = omega arith
-few_numbers (Put id value) = omega arith
-few_numbers (Insert number) = omega arith
-few_numbers (Remove number) = omega arith
-few_numbers (Truncate kept) = omega arith
+few_numbers command = (command_facts command).2
 
 -- what is printed line by line has a word with up to two numbers in each line, if each line has
 pub all_have_parts : {X : Type 0} (IsValid : X → Type 0) (print : X → Line) → ((x : X) → IsValid x → HasSomeParts (print x))
@@ -82,4 +80,5 @@ batches_can_end commands valid = (commands, Commit, end_line Commit ∷ [], vali
 
 -- what was read of a script of batches begins one
 pub begins_script : (reading : Reading) (lines : List Line) → HasRead reading lines → IsOpen lines
-begins_script reading lines = begins_over batch_printing batch_printing batches_can_end (plain_items reading.items.items) (begun_in reading) lines
+begins_script reading lines =
+    begins_over batch_printing batch_printing batches_can_end (plain_items reading.items.items) (begun_in reading) lines
