@@ -1,6 +1,6 @@
 -- What a line does to a nest that has begun, and where reading it stops.
 use Rattle.std.proofs.Common.{◌≡◌, ℕ, zero, suc, ◌+◌, List, [], ◌∷◌, ◌++◌, map, refl, sym, ap, ◌∙◌, subst, arith, append_assoc}
-use Rattle.std.proofs.Math.Logic.{inl, inr}
+use Rattle.std.proofs.Math.Logic.{◌⊎◌, inl, inr}
 use Rattle.std.proofs.lemmas.List.{append-nil}
 use Rattle.std.specs.List.{AllByRecursion}
 use Rattle.batch_core.specs.declared.command.End.{End}
@@ -15,7 +15,7 @@ use Rattle.batch_nest.specs.declared.nest.NestLine.TheVariants.{Commit as Commit
 use Rattle.batch_nest.specs.Nest.{Body, IsBalanced, body_lines, end_line}
 use Rattle.batch_nest.specs.Reading.{commits}
 use Rattle.batch_nest.specs.Script.{IsValidLine, nest_printing, printed_line}
-use Rattle.batch_nest.proofs.LineFacts.{Closes, balanced_closes, closes_balanced}
+use Rattle.batch_nest.proofs.LineFacts.{Closes, Steps, balanced_closes, closes_balanced}
 use Rattle.batch_nest.proofs.PrintFacts.{closed_lines, closed_printed, closed_valid, one_is_longer}
 use Rattle.batch_nest.proofs.TellFacts.{ends_at, tells}
 
@@ -60,43 +60,22 @@ leaves_open lines depth opened =
     let some = leaves_some 0 lines (commits depth) closes in
     subst (λ depth. Leaves 0 depth lines) (so_many_open some.0 depth (some.1.on (commits depth) closes)) some.1
 
--- a line behind which so many are open
-open_behind : (lines : List (NestLine ℕ)) (depth next : ℕ) (line : NestLine ℕ) → IsOpenAt lines depth
-    → Closes depth (line ∷ commits next) → IsOpenAt (lines ++ line ∷ []) next
-open_behind lines depth next line opened closes =
+-- one line more
+pub open_line : (lines : List (NestLine ℕ)) (depth next : ℕ) (line : NestLine ℕ) → Steps depth next line → IsOpenAt lines depth
+    → IsOpenAt (lines ++ line ∷ []) next
+open_line lines depth next line step opened =
     balanced_closes ((lines ++ line ∷ []) ++ commits next)
     (subst (Closes 0) (sym (append_assoc lines (line ∷ []) (commits next)))
-    ((leaves_open lines depth opened).back (line ∷ commits next) closes))
+    ((leaves_open lines depth opened).back (line ∷ commits next) (step.back (commits next) (commits_close next))))
 
 -- no line: nothing is open
 pub open_start : IsOpenAt [] 0
 open_start = balanced_closes [] refl
 
--- a command opens and ends nothing
-pub open_command : (lines : List (NestLine ℕ)) (depth : ℕ) (line : NestLine ℕ) (command : Command ℕ) → line ≡ CommandLine command
-    → IsOpenAt lines depth → IsOpenAt (lines ++ line ∷ []) depth
-open_command lines depth line command is opened =
-    open_behind lines depth depth line opened (subst (λ l. Closes depth (l ∷ commits depth)) (sym is) (commits_close depth))
-
--- a begin opens one more
-pub open_begin : (lines : List (NestLine ℕ)) (depth next : ℕ) (line : NestLine ℕ) → line ≡ BeginLine → next ≡ depth + 1
-    → IsOpenAt lines depth → IsOpenAt (lines ++ line ∷ []) next
-open_begin lines depth next line is more opened =
-    let one_more : suc depth ≡ next = omega (arith, more) in
-    open_behind lines depth next line opened
-    (subst (λ l. Closes depth (l ∷ commits next)) (sym is) (subst (λ d. Closes d (commits next)) (sym one_more) (commits_close next)))
-
-closes_end_of : (ending : End) (depth : ℕ) → Closes (suc depth) (end_line ending ∷ commits depth)
-closes_end_of Commit depth = commits_close depth
-closes_end_of Abort depth = commits_close depth
-
--- an end closes one
-pub open_end : (lines : List (NestLine ℕ)) (depth next : ℕ) (ending : End) → depth ≡ next + 1 → IsOpenAt lines depth
-    → IsOpenAt (lines ++ end_line ending ∷ []) next
-open_end lines depth next ending fewer opened =
-    let one_fewer : suc next ≡ depth = omega (arith, fewer) in
-    open_behind lines depth next (end_line ending) opened
-    (subst (λ d. Closes d (end_line ending ∷ commits next)) one_fewer (closes_end_of ending next))
+-- an end is one of two lines
+pub end_is : (ending : End) → (end_line {T = ℕ} ending ≡ CommitLine) ⊎ (end_line {T = ℕ} ending ≡ AbortLine)
+end_is Commit = inl refl
+end_is Abort = inr refl
 
 -- with none open the lines are those of a body
 pub balanced_at_none : (lines : List (NestLine ℕ)) (depth : ℕ) → depth ≡ 0 → IsOpenAt lines depth → IsBalanced lines
