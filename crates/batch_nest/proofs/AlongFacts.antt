@@ -1,5 +1,5 @@
 -- How far a nest has come by its commands alone: as far as a batch of the same commands.
-use Rattle.std.proofs.Common.{◌≡◌, ℕ, suc, ◌+◌, ◌≤◌, List, [], ◌++◌, length, Option, None, Some, refl, sym, ap, subst, ◌∙◌, arith}
+use Rattle.std.proofs.Common.{◌≡◌, ℕ, suc, ◌+◌, ◌≤◌, ◌++◌, length, Option, None, Some, refl, sym, ap, subst, ◌∙◌, arith}
 use Rattle.batch_core.specs.State.{Contents, IsSound}
 use Rattle.batch_core.specs.Command.{cause_of, effect_of}
 use Rattle.batch_core.specs.Back.{Grows, undo_all}

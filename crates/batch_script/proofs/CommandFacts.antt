@@ -1,5 +1,5 @@
 -- The line of a command, read on its own.
-use Rattle.std.proofs.Common.{◌≡◌, ◌≢◌, ◌<◌, ℕ, false, List, [], ◌∷◌, length, get_or, append-nil, refl, sym, ap, subst, ◌∙◌, arith, inl}
+use Rattle.std.proofs.Common.{◌≡◌, ◌≢◌, ℕ, List, [], ◌∷◌, get_or, append-nil, refl, sym, ap, subst, ◌∙◌, inl}
 use Rattle.std.specs.Prelude.{Option, Some, None, IfSome, IfNone}
 use Rattle.batch_core.specs.declared.command.Command.{Command}
 use Rattle.batch_script.specs.Front.{HasFault, IsOneLine}

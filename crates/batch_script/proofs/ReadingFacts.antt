@@ -1,5 +1,5 @@
 -- What a line does to what was read of a script, and where reading stops.
-use Rattle.std.proofs.Common.{◌≡◌, ◌≢◌, ℕ, false, List, [], ◌∷◌, ◌++◌, refl, sym, ap, ◌∙◌}
+use Rattle.std.proofs.Common.{◌≡◌, ◌≢◌, ℕ, false, List, [], ◌∷◌, ◌++◌, refl, sym, ◌∙◌}
 use Rattle.std.proofs.Common.{inl, inr, append_assoc, Option, Some, None}
 use Rattle.std.specs.Prelude.{codes, IsSome}
 use Rattle.std.specs.List.{AllByRecursion}

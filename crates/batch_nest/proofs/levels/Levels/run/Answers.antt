@@ -1,4 +1,4 @@
-use Rattle.std.proofs.Common.{[], ◌+◌, length, ◌∷◌, refl, sym, ap, ◌∙◌, arith, length-append}
+use Rattle.std.proofs.Common.{[], length, ◌∷◌, refl, sym, ap, ◌∙◌, arith, length-append}
 use Rattle.std.specs.Vec.Iter.{into_iter_items}
 use Rattle.batch_core.specs.Back.{undo_all}
 use Rattle.batch_core.specs.declared.command.End.TheVariants.{Commit, Abort}

@@ -1,4 +1,4 @@
-use Rattle.std.proofs.Common.{[], ◌∷◌, ◌++◌, OnOk, sym, subst, ◌∙◌}
+use Rattle.std.proofs.Common.{OnOk, sym, subst, ◌∙◌}
 use Rattle.batch_nest.specs.Reading.{TakesNestLine}
 use Rattle.batch_nest.proofs.LineFacts.{Steps, step_begin, step_command}
 use Rattle.batch_nest.proofs.OpenFacts.{open_line}
