@@ -1,4 +1,5 @@
 -- A nest line after line: which inner bodies are open, and what the whole comes to from here.
+use Rattle.std.specs.Prelude.{⊤}
 use Rattle.std.proofs.Common.{◌≡◌, ℕ, ◌≤◌, List, [], ◌∷◌, ◌++◌, length, take, drop, None, refl, sym, ap}
 use Rattle.std.proofs.Common.{◌∙◌, arith, append_assoc, length-append}
 use Rattle.std.proofs.lemmas.List.{append-nil}
@@ -6,12 +7,13 @@ use Rattle.std.proofs.Math.Seq.{take-append_seam, drop-append_seam}
 use Rattle.batch_core.specs.State.{Contents, IsSound}
 use Rattle.batch_core.specs.Command.{cause_of, effect_of, records_of}
 use Rattle.batch_core.specs.Back.{undo_all, back}
-use Rattle.batch_core.specs.Course.{Stand, Course, led_by}
+use Rattle.batch_core.specs.Course.{Stand, Course}
 use Rattle.batch_core.specs.declared.command.Command.{Command}
 use Rattle.batch_core.specs.declared.command.End.{End}
 use Rattle.batch_core.specs.declared.command.End.TheVariants.{Commit, Abort}
 use Rattle.batch_core.specs.declared.record.Record.{Record}
 use Rattle.batch_core.proofs.BackFacts.{undo_all-append, undoing_goes_back}
+use Rattle.batch_core.proofs.CourseFacts.{after_front}
 use Rattle.batch_nest.specs.Nest.{Body, done, then_inner, nest_course}
 use Rattle.batch_nest.proofs.LineFacts.{Rest}
 
@@ -32,18 +34,10 @@ module _ {X : Type 0} where
   marks_of [] = []
   marks_of (frame ∷ frames) = marks_of frames ++ length frame.records ∷ []
 
-  -- a course before which these commands stood and these records were left
-  abbrev pub preceded : List (Stand X) → List (Record X) → Course X → Course X
-  preceded stands records course = record {
-    stands = stands ++ course.stands;
-    records = records ++ course.records;
-    after = course.after;
-  }
-
   -- the course so far is that of an inner body up to its end, which is followed by what comes later
   abbrev pub close_one : End → Body X → Contents X → List (Record X) → Course X → Course X
-  close_one Commit later contents records course = preceded course.stands course.records (nest_course course.after later)
-  close_one Abort later contents records course = preceded course.stands records (nest_course contents later)
+  close_one Commit later contents records course = after_front course.stands course.records (nest_course course.after later)
+  close_one Abort later contents records course = after_front course.stands records (nest_course contents later)
 
   -- so it is for each open body, the innermost first
   abbrev pub close_all : List (Frame X) → Course X → Course X
@@ -51,21 +45,11 @@ module _ {X : Type 0} where
   close_all (frame ∷ frames) course =
       close_all frames (close_one frame.rest.ending frame.rest.later frame.contents frame.records course)
 
-  -- one command further
-  pub further : (stands : List (Stand X)) (records : List (Record X)) (contents : Contents X) (command : Command X) (later : Course X)
-      → preceded stands records (led_by contents command later)
-      ≡ preceded (stands ++ record { contents = contents; command = command } ∷ []) (records ++ records_of contents command) later
-  further stands records contents command later = λ i. record {
-    stands = sym (append_assoc stands (record { contents = contents; command = command } ∷ []) later.stands) i;
-    records = sym (append_assoc records (records_of contents command) later.records) i;
-    after = later.after;
-  }
-
   -- into an inner body
   pub inward : (stands : List (Stand X)) (records : List (Record X)) (contents : Contents X) (inner : Body X) (ending : End)
       (later : Body X)
-      → preceded stands records (nest_course contents (then_inner inner ending later))
-      ≡ close_one ending later contents records (preceded stands records (nest_course contents inner))
+      → after_front stands records (nest_course contents (then_inner inner ending later))
+      ≡ close_one ending later contents records (after_front stands records (nest_course contents inner))
   inward stands records contents inner Commit later =
       let within = nest_course contents inner in
       let after = nest_course within.after later in λ i. record {
@@ -85,21 +69,21 @@ module _ {X : Type 0} where
   pub outward_kept : (stands : List (Stand X)) (records start : List (Record X)) (contents before : Contents X) (later : Body X)
       (ending : End)
       → ending ≡ Commit
-      → close_one ending later before start (preceded stands records (nest_course contents done))
-      ≡ preceded stands records (nest_course contents later)
+      → close_one ending later before start (after_front stands records (nest_course contents done))
+      ≡ after_front stands records (nest_course contents later)
   outward_kept stands records start contents before later ending is =
-      ap (λ e. close_one e later before start (preceded stands records (nest_course contents done))) is
-      ∙ (λ i. preceded (append-nil stands i) (append-nil records i) (nest_course contents later))
+      ap (λ e. close_one e later before start (after_front stands records (nest_course contents done))) is
+      ∙ (λ i. after_front (append-nil stands i) (append-nil records i) (nest_course contents later))
 
   -- out of an inner body that ends in abort: what was held and recorded at its start is back
   pub outward_undone : (stands : List (Stand X)) (records start : List (Record X)) (contents before : Contents X) (later : Body X)
       (ending : End)
       → ending ≡ Abort
-      → close_one ending later before start (preceded stands records (nest_course contents done))
-      ≡ preceded stands start (nest_course before later)
+      → close_one ending later before start (after_front stands records (nest_course contents done))
+      ≡ after_front stands start (nest_course before later)
   outward_undone stands records start contents before later ending is =
-      ap (λ e. close_one e later before start (preceded stands records (nest_course contents done))) is
-      ∙ (λ i. preceded (append-nil stands i) start (nest_course before later))
+      ap (λ e. close_one e later before start (after_front stands records (nest_course contents done))) is
+      ∙ (λ i. after_front (append-nil stands i) start (nest_course before later))
 
   stands_one : (ending : End) (later : Body X) (contents : Contents X) (records : List (Record X)) (course : Course X)
       → (more : List (Stand X)) × ((close_one ending later contents records course).stands ≡ course.stands ++ more)
@@ -124,10 +108,10 @@ module _ {X : Type 0} where
     pub contents : undo_all late c ≡ start
 
   -- each open body goes back to its start, from what the next inner one had at its own start
-  abbrev pub IsStacked : Contents X → List (Frame X) → Contents X → List (Record X) → Type 0
-  IsStacked first [] contents records = GoesBack contents records first []
-  IsStacked first (frame ∷ frames) contents records =
-      GoesBack contents records frame.contents frame.records × IsStacked first frames frame.contents frame.records
+  abbrev pub IsStacked : List (Frame X) → Contents X → List (Record X) → Type 0
+  IsStacked [] contents records = ⊤
+  IsStacked (frame ∷ frames) contents records =
+      GoesBack contents records frame.contents frame.records × IsStacked frames frame.contents frame.records
 
   back_twice : (c : Contents X) (r : List (Record X)) (d : Contents X) (s : List (Record X)) (e : Contents X) (t : List (Record X))
       → GoesBack c r d s → GoesBack d s e t → GoesBack c r e t
@@ -138,18 +122,10 @@ module _ {X : Type 0} where
   }
 
   -- what goes back to where one was goes back to all that one could go back to
-  pub stacked_from : (first : Contents X) (frames : List (Frame X)) (c : Contents X) (r : List (Record X)) (d : Contents X)
-      (s : List (Record X))
-      → GoesBack c r d s → IsStacked first frames d s → IsStacked first frames c r
-  stacked_from first [] c r d s near far = back_twice c r d s first [] near far
-  stacked_from first (frame ∷ frames) c r d s near far = (back_twice c r d s frame.contents frame.records near far.0, far.1)
-
-  -- undoing all records gives the contents at first
-  pub stacked_undone : (first : Contents X) (frames : List (Frame X)) (c : Contents X) (r : List (Record X)) → IsStacked first frames c r
-      → GoesBack c r first []
-  stacked_undone first [] c r stacked = stacked
-  stacked_undone first (frame ∷ frames) c r stacked =
-      back_twice c r frame.contents frame.records first [] stacked.0 (stacked_undone first frames frame.contents frame.records stacked.1)
+  pub stacked_from : (frames : List (Frame X)) (c : Contents X) (r : List (Record X)) (d : Contents X) (s : List (Record X))
+      → GoesBack c r d s → IsStacked frames d s → IsStacked frames c r
+  stacked_from [] c r d s near far = tt
+  stacked_from (frame ∷ frames) c r d s near far = (back_twice c r d s frame.contents frame.records near far.0, far.1)
 
   -- one goes back to where one is
   pub here : (c : Contents X) (r : List (Record X)) → GoesBack c r c r

@@ -1,3 +1,4 @@
+pub mod AlongFacts
 pub mod CountFacts
 pub mod CourseFacts
 pub mod FrameFacts
@@ -8,7 +9,6 @@ pub mod OpenFacts
 pub mod OutcomeFacts
 pub mod PrintFacts
 pub mod ReadingFacts
-pub mod RefusedFacts
 pub mod RoomFacts
 pub mod Rows
 pub mod ShapeFacts

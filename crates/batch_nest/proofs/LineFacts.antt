@@ -120,54 +120,51 @@ module _ {X : Type 0} where
       subst (λ l. IsOpenFor all l depth) (sym same)
       (subst (IsOpenFor all all) (sym none) (record { on = λ closes. closes; back = λ closes. closes }))
 
-  at_line : (all left : List (NestLine X)) (line known : NestLine X) (rest : List (NestLine X)) (depth : ℕ) → left ≡ line ∷ rest
-      → line ≡ known → IsOpenFor all left depth → IsOpenFor all (known ∷ rest) depth
-  at_line all left line known rest depth split is now = subst (λ l. IsOpenFor all l depth) (split ∙ ap (λ l. l ∷ rest) is) now
+  -- with so many bodies open before this line, so many are open behind it
+  pub record Steps (depth next : ℕ) (line : NestLine X) : Type 0 where
+    pub on : (rest : List (NestLine X)) → Closes depth (line ∷ rest) → Closes next rest
+    pub back : (rest : List (NestLine X)) → Closes next rest → Closes depth (line ∷ rest)
 
   -- a command opens and ends nothing
-  pub after_command_line : (all left : List (NestLine X)) (line : NestLine X) (rest : List (NestLine X)) (depth : ℕ) (command : Command X)
-      → left ≡ line ∷ rest → line ≡ CommandLine command → IsOpenFor all left depth → IsOpenFor all rest depth
-  after_command_line all left line rest depth command split is now =
-      let here = at_line all left line (CommandLine command) rest depth split is now in record { on = here.on; back = here.back }
+  pub step_command : (line : NestLine X) (depth : ℕ) (command : Command X) → line ≡ CommandLine command → Steps depth depth line
+  step_command line depth command is =
+      subst (Steps depth depth) (sym is) (record { on = λ rest closes. closes; back = λ rest closes. closes })
 
   -- a begin opens one more
-  pub after_begin_line : (all left : List (NestLine X)) (line : NestLine X) (rest : List (NestLine X)) (depth next : ℕ)
-      → left ≡ line ∷ rest → line ≡ BeginLine → next ≡ depth + 1 → IsOpenFor all left depth → IsOpenFor all rest next
-  after_begin_line all left line rest depth next split is more now =
-      let here = at_line all left line BeginLine rest depth split is now in
+  pub step_begin : (line : NestLine X) (depth next : ℕ) → line ≡ BeginLine → next ≡ depth + 1 → Steps depth next line
+  step_begin line depth next is more =
       let one_more : suc depth ≡ next = omega (arith, more) in
-      subst (IsOpenFor all rest) one_more (record { on = here.on; back = here.back })
-
-  end_of : (all left : List (NestLine X)) (line : NestLine X) (rest : List (NestLine X)) (depth : ℕ) → left ≡ line ∷ rest
-      → ((line ≡ CommitLine) ⊎ (line ≡ AbortLine)) → IsOpenFor all left depth
-      → (ending : End) × IsOpenFor all (end_line ending ∷ rest) depth
-  end_of all left line rest depth split (inl is) now = (Commit, at_line all left line CommitLine rest depth split is now)
-  end_of all left line rest depth split (inr is) now = (Abort, at_line all left line AbortLine rest depth split is now)
-
-  ended_one : (all rest : List (NestLine X)) (ending : End) (depth : ℕ) → IsOpenFor all (end_line ending ∷ rest) (suc depth)
-      → IsOpenFor all rest depth
-  ended_one all rest Commit depth here = record { on = here.on; back = here.back }
-  ended_one all rest Abort depth here = record { on = here.on; back = here.back }
+      subst (Steps depth next) (sym is)
+      (subst (λ n. Steps depth n BeginLine) one_more (record { on = λ rest closes. closes; back = λ rest closes. closes }))
 
   -- an end closes one of those that are open
-  pub after_end_line : (all left : List (NestLine X)) (line : NestLine X) (rest : List (NestLine X)) (depth next : ℕ)
-      → left ≡ line ∷ rest → ((line ≡ CommitLine) ⊎ (line ≡ AbortLine)) → depth ≡ next + 1 → IsOpenFor all left depth
-      → IsOpenFor all rest next
-  after_end_line all left line rest depth next split is fewer now =
-      let here = end_of all left line rest depth split is now in
-      let one_fewer : depth ≡ suc next = omega (arith, fewer) in
-      ended_one all rest here.0 next (subst (IsOpenFor all (end_line here.0 ∷ rest)) one_fewer here.1)
+  pub step_end : (line : NestLine X) (depth next : ℕ) → ((line ≡ CommitLine) ⊎ (line ≡ AbortLine)) → depth ≡ next + 1
+      → Steps depth next line
+  step_end line depth next (inl is) fewer =
+      let one_fewer : suc next ≡ depth = omega (arith, fewer) in
+      subst (Steps depth next) (sym is)
+      (subst (λ d. Steps d next CommitLine) one_fewer (record { on = λ rest closes. closes; back = λ rest closes. closes }))
+  step_end line depth next (inr is) fewer =
+      let one_fewer : suc next ≡ depth = omega (arith, fewer) in
+      subst (Steps depth next) (sym is)
+      (subst (λ d. Steps d next AbortLine) one_fewer (record { on = λ rest closes. closes; back = λ rest closes. closes }))
 
-  none_to_end : (all rest : List (NestLine X)) (ending : End) → IsOpenFor all (end_line ending ∷ rest) 0 → ¬ IsBalanced all
-  none_to_end all rest Commit here balanced = here.on (closes_balanced all balanced)
-  none_to_end all rest Abort here balanced = here.on (closes_balanced all balanced)
+  -- so it is for the lines that are left behind it
+  pub after_line : (all left : List (NestLine X)) (line : NestLine X) (rest : List (NestLine X)) (depth next : ℕ) → left ≡ line ∷ rest
+      → Steps depth next line → IsOpenFor all left depth → IsOpenFor all rest next
+  after_line all left line rest depth next split step now =
+      let here = subst (λ l. IsOpenFor all l depth) split now in
+      record { on = λ closes. step.on rest (here.on closes); back = λ closes. here.back (step.back rest closes) }
+
+  never_closes : (line : NestLine X) (rest : List (NestLine X)) → ((line ≡ CommitLine) ⊎ (line ≡ AbortLine)) → ¬ Closes 0 (line ∷ rest)
+  never_closes line rest (inl is) closes = subst (λ l. Closes 0 (l ∷ rest)) is closes
+  never_closes line rest (inr is) closes = subst (λ l. Closes 0 (l ∷ rest)) is closes
 
   -- an end while none is open: the lines aren't balanced
   pub unbalanced_end : (all left : List (NestLine X)) (line : NestLine X) (rest : List (NestLine X)) (depth : ℕ) → left ≡ line ∷ rest
       → ((line ≡ CommitLine) ⊎ (line ≡ AbortLine)) → depth ≡ 0 → IsOpenFor all left depth → ¬ IsBalanced all
-  unbalanced_end all left line rest depth split is none now =
-      let here = end_of all left line rest depth split is now in
-      none_to_end all rest here.0 (subst (IsOpenFor all (end_line here.0 ∷ rest)) none here.1)
+  unbalanced_end all left line rest depth split is none now balanced =
+      never_closes line rest is (subst (λ d. Closes d (line ∷ rest)) none (subst (Closes depth) split (now.on (closes_balanced all balanced))))
 
   -- once no line is left, the lines are balanced exactly if none is open
   pub balanced_in_the_end : (all left : List (NestLine X)) (depth : ℕ) → left ≡ [] → IsOpenFor all left depth

@@ -1,23 +1,20 @@
 -- What a line does to a nest that has begun, and where reading it stops.
-use Rattle.std.proofs.Common.{◌≡◌, ℕ, zero, suc, ◌+◌, List, [], ◌∷◌, ◌++◌, map, refl, sym, ap, ◌∙◌, subst, arith, append_assoc}
-use Rattle.std.proofs.Math.Logic.{inl, inr}
+use Rattle.std.proofs.Common.{◌≡◌, ℕ, zero, suc, List, [], ◌∷◌, ◌++◌, map, refl, sym, ap, ◌∙◌, subst, append_assoc}
+use Rattle.std.proofs.Math.Logic.{◌⊎◌, inl, inr}
 use Rattle.std.proofs.lemmas.List.{append-nil}
-use Rattle.std.specs.Prelude.{codes}
 use Rattle.std.specs.List.{AllByRecursion}
 use Rattle.batch_core.specs.declared.command.End.{End}
 use Rattle.batch_core.specs.declared.command.End.TheVariants.{Commit, Abort}
-use Rattle.batch_script.specs.Grammar.{Line, IsValidItemOver, all_lines_over, ended_lines}
-use Rattle.batch_script.specs.Machine.{reserve, show, batch}
+use Rattle.batch_script.specs.Grammar.{Line}
 use Rattle.batch_script.proofs.ListFacts.{AllByRecursion-behind}
-use Rattle.batch_script.proofs.ScriptFacts.{apart, first_line}
-use Rattle.batch_core.specs.declared.command.Command.{Command}
+use Rattle.batch_script.proofs.PrefixFacts.{HasWhole}
 use Rattle.batch_nest.specs.declared.nest.NestLine.{NestLine}
 use Rattle.batch_nest.specs.declared.nest.NestLine.TheVariants.{Command as CommandLine, Begin as BeginLine}
 use Rattle.batch_nest.specs.declared.nest.NestLine.TheVariants.{Commit as CommitLine, Abort as AbortLine}
 use Rattle.batch_nest.specs.Nest.{Body, IsBalanced, body_lines, end_line}
 use Rattle.batch_nest.specs.Reading.{commits}
-use Rattle.batch_nest.specs.Script.{PlainNestItem, IsValidLine, nest_printing, printed_line}
-use Rattle.batch_nest.proofs.LineFacts.{Closes, balanced_closes, closes_balanced}
+use Rattle.batch_nest.specs.Script.{IsValidLine, nest_printing, printed_line}
+use Rattle.batch_nest.proofs.LineFacts.{Closes, Steps, balanced_closes, closes_balanced}
 use Rattle.batch_nest.proofs.PrintFacts.{closed_lines, closed_printed, closed_valid, one_is_longer}
 use Rattle.batch_nest.proofs.TellFacts.{ends_at, tells}
 
@@ -62,43 +59,22 @@ leaves_open lines depth opened =
     let some = leaves_some 0 lines (commits depth) closes in
     subst (λ depth. Leaves 0 depth lines) (so_many_open some.0 depth (some.1.on (commits depth) closes)) some.1
 
--- a line behind which so many are open
-open_behind : (lines : List (NestLine ℕ)) (depth next : ℕ) (line : NestLine ℕ) → IsOpenAt lines depth
-    → Closes depth (line ∷ commits next) → IsOpenAt (lines ++ line ∷ []) next
-open_behind lines depth next line opened closes =
+-- one line more
+pub open_line : (lines : List (NestLine ℕ)) (depth next : ℕ) (line : NestLine ℕ) → Steps depth next line → IsOpenAt lines depth
+    → IsOpenAt (lines ++ line ∷ []) next
+open_line lines depth next line step opened =
     balanced_closes ((lines ++ line ∷ []) ++ commits next)
     (subst (Closes 0) (sym (append_assoc lines (line ∷ []) (commits next)))
-    ((leaves_open lines depth opened).back (line ∷ commits next) closes))
+    ((leaves_open lines depth opened).back (line ∷ commits next) (step.back (commits next) (commits_close next))))
 
 -- no line: nothing is open
 pub open_start : IsOpenAt [] 0
 open_start = balanced_closes [] refl
 
--- a command opens and ends nothing
-pub open_command : (lines : List (NestLine ℕ)) (depth : ℕ) (line : NestLine ℕ) (command : Command ℕ) → line ≡ CommandLine command
-    → IsOpenAt lines depth → IsOpenAt (lines ++ line ∷ []) depth
-open_command lines depth line command is opened =
-    open_behind lines depth depth line opened (subst (λ l. Closes depth (l ∷ commits depth)) (sym is) (commits_close depth))
-
--- a begin opens one more
-pub open_begin : (lines : List (NestLine ℕ)) (depth next : ℕ) (line : NestLine ℕ) → line ≡ BeginLine → next ≡ depth + 1
-    → IsOpenAt lines depth → IsOpenAt (lines ++ line ∷ []) next
-open_begin lines depth next line is more opened =
-    let one_more : suc depth ≡ next = omega (arith, more) in
-    open_behind lines depth next line opened
-    (subst (λ l. Closes depth (l ∷ commits next)) (sym is) (subst (λ d. Closes d (commits next)) (sym one_more) (commits_close next)))
-
-closes_end_of : (ending : End) (depth : ℕ) → Closes (suc depth) (end_line ending ∷ commits depth)
-closes_end_of Commit depth = commits_close depth
-closes_end_of Abort depth = commits_close depth
-
--- an end closes one
-pub open_end : (lines : List (NestLine ℕ)) (depth next : ℕ) (ending : End) → depth ≡ next + 1 → IsOpenAt lines depth
-    → IsOpenAt (lines ++ end_line ending ∷ []) next
-open_end lines depth next ending fewer opened =
-    let one_fewer : suc next ≡ depth = omega (arith, fewer) in
-    open_behind lines depth next (end_line ending) opened
-    (subst (λ d. Closes d (end_line ending ∷ commits next)) one_fewer (closes_end_of ending next))
+-- an end is one of two lines
+pub end_is : (ending : End) → (end_line {T = ℕ} ending ≡ CommitLine) ⊎ (end_line {T = ℕ} ending ≡ AbortLine)
+end_is Commit = inl refl
+end_is Abort = inr refl
 
 -- with none open the lines are those of a body
 pub balanced_at_none : (lines : List (NestLine ℕ)) (depth : ℕ) → depth ≡ 0 → IsOpenAt lines depth → IsBalanced lines
@@ -132,40 +108,31 @@ next_is_known lines depth body ending line rest more (known ∷ behind) opened v
     let first : line ≡ printed_line known = cc in
     (known, (AllByRecursion-behind IsValidLine lines (known ∷ behind) (subst (AllByRecursion IsValidLine) is valid)).0, first)
 
--- behind the lines of a nest that has begun comes a line of a nest
-pub next_line_in_nest : (lines : List (NestLine ℕ)) (depth : ℕ) (line : Line) (rest : List Line) (items : List PlainNestItem)
-    → AllByRecursion IsValidLine lines → IsOpenAt lines depth → AllByRecursion (IsValidItemOver nest_printing) items
-    → (codes "begin" ∷ map printed_line lines) ++ line ∷ rest ≡ all_lines_over nest_printing items → GoesOnNest line
-next_line_in_nest lines depth line rest [] valid opened sound same = absurd (let bad : _ = same in cc)
-next_line_in_nest lines depth line rest (reserve number ∷ items) valid opened sound same = absurd (apart _ _ refl (ap first_line same))
-next_line_in_nest lines depth line rest (show ∷ items) valid opened sound same = absurd (apart _ _ refl (ap first_line same))
-next_line_in_nest lines depth line rest (batch body ending ∷ items) valid opened sound same =
-    let more = all_lines_over nest_printing items in
-    let closed = closed_valid body ending sound.0 in
-    let tails : map printed_line lines ++ line ∷ rest ≡ ended_lines nest_printing body ending ++ more = cc in
-    elim (one_is_longer lines (closed_lines body ending) (line ∷ rest) more valid closed (tails ∙ closed_printed body ending more)) [
-      | inl longer ↦ next_is_known lines depth body ending line rest more longer.behind opened closed longer.lines_are longer.rest_is
-      | inr longer ↦ absurd (never_closed lines depth body ending longer.behind opened longer.lines_are)
-    ]
-
 none_behind : (lines closed behind : List (NestLine ℕ)) (more : List Line) → closed ≡ lines ++ behind
     → [] ≡ map printed_line behind ++ more → lines ≡ closed ++ []
 none_behind lines closed [] more is none = sym (append-nil lines) ∙ (sym is ∙ sym (append-nil closed))
 none_behind lines closed (line ∷ behind) more is none = absurd (let bad : _ = none in cc)
 
--- a nest with no end is no script
-pub begun_is_no_nest_script : (lines : List (NestLine ℕ)) (depth : ℕ) (items : List PlainNestItem) → AllByRecursion IsValidLine lines
-    → IsOpenAt lines depth → AllByRecursion (IsValidItemOver nest_printing) items
-    → codes "begin" ∷ map printed_line lines ≡ all_lines_over nest_printing items → ⊥
-begun_is_no_nest_script lines depth [] valid opened sound same = cc
-begun_is_no_nest_script lines depth (reserve number ∷ items) valid opened sound same = apart _ _ refl (ap first_line same)
-begun_is_no_nest_script lines depth (show ∷ items) valid opened sound same = apart _ _ refl (ap first_line same)
-begun_is_no_nest_script lines depth (batch body ending ∷ items) valid opened sound same =
-    let more = all_lines_over nest_printing items in
-    let tails : map printed_line lines ≡ ended_lines nest_printing body ending ++ more = cc in
-    elim (one_is_longer lines (closed_lines body ending) [] more valid (closed_valid body ending sound.0)
-    (append-nil (map printed_line lines) ∙ (tails ∙ closed_printed body ending more))) [
-      | inl longer ↦ never_closed lines depth body ending [] opened
-          (none_behind lines (closed_lines body ending) longer.behind more longer.lines_are longer.rest_is)
-      | inr longer ↦ never_closed lines depth body ending longer.behind opened longer.lines_are
-    ]
+module _ (lines : List (NestLine ℕ)) (depth : ℕ) (valid : AllByRecursion IsValidLine lines) (opened : IsOpenAt lines depth) where
+  -- behind the lines of a nest that has begun comes a line of a nest
+  pub next_in_nest : (line : Line) (rest : List Line) → HasWhole nest_printing (map printed_line lines ++ line ∷ rest) → GoesOnNest line
+  next_in_nest line rest whole =
+      let closed = closed_lines whole.body whole.ending in
+      let sound = closed_valid whole.body whole.ending whole.valid in
+      elim (one_is_longer lines closed (line ∷ rest) whole.rest valid sound (whole.same
+      ∙ closed_printed whole.body whole.ending whole.rest)) [
+        | inl longer ↦ next_is_known lines depth whole.body whole.ending line rest whole.rest longer.behind opened sound longer.lines_are
+            longer.rest_is
+        | inr longer ↦ absurd (never_closed lines depth whole.body whole.ending longer.behind opened longer.lines_are)
+      ]
+
+  -- they alone are no whole nest
+  pub unended_nest : ¬ HasWhole nest_printing (map printed_line lines)
+  unended_nest whole =
+      let closed = closed_lines whole.body whole.ending in
+      elim (one_is_longer lines closed [] whole.rest valid (closed_valid whole.body whole.ending whole.valid)
+      (append-nil (map printed_line lines) ∙ (whole.same ∙ closed_printed whole.body whole.ending whole.rest))) [
+        | inl longer ↦ never_closed lines depth whole.body whole.ending [] opened
+            (none_behind lines closed longer.behind whole.rest longer.lines_are longer.rest_is)
+        | inr longer ↦ never_closed lines depth whole.body whole.ending longer.behind opened longer.lines_are
+      ]

@@ -1,69 +1,51 @@
 -- Lines of nests are told apart by what they are printed as, and printed bodies tell what they are.
-use Rattle.std.proofs.Common.{◌≡◌, ◌⊎◌, ℕ, true, false, List, [], ◌∷◌, ◌++◌, map, refl, sym, ap, ◌∙◌, inl, inr, append_assoc}
+use Rattle.std.proofs.Common.{◌≡◌, ◌⊎◌, ℕ, List, [], ◌∷◌, ◌++◌, map, refl, sym, ap, ◌∙◌, inl, inr, append_assoc}
 use Rattle.std.proofs.lemmas.List.{map-append}
-use Rattle.std.specs.Prelude.{codes, bytes_eq}
+use Rattle.std.specs.Prelude.{codes, bytes_eq, if◌then◌else◌}
 use Rattle.std.specs.List.{AllByRecursion}
-use Rattle.batch_core.specs.declared.command.Command.{Command}
 use Rattle.batch_core.specs.declared.command.Command.TheVariants.{Push, Pop, Set, Alloc, Free, Put, Insert, Remove, Truncate}
 use Rattle.batch_core.specs.declared.command.End.{End}
 use Rattle.batch_core.specs.declared.command.End.TheVariants.{Commit, Abort}
-use Rattle.batch_script.specs.Grammar.{Line, IsValidCommand, TellsBodies, command_line, ended_lines, numbers_of, word_of}
+use Rattle.batch_script.specs.Grammar.{Line, TellsBodies, ended_lines}
 use Rattle.batch_script.specs.Grammar.{end_line as written_end}
-use Rattle.batch_script.specs.ReadingLaws.{AllByRecursion-append, one_word}
-use Rattle.batch_script.proofs.LineFacts.{same_line}
-use Rattle.batch_script.proofs.ScriptFacts.{apart, command_is_no_end, same_command as same_written_command}
+use Rattle.batch_script.specs.ReadingLaws.{AllByRecursion-append}
+use Rattle.batch_script.proofs.LineFacts.{known_by_line}
+use Rattle.batch_script.proofs.ScriptFacts.{command_from}
 use Rattle.batch_nest.specs.declared.nest.NestLine.{NestLine}
 use Rattle.batch_nest.specs.declared.nest.NestLine.TheVariants.{Command as CommandLine, Begin as BeginLine}
 use Rattle.batch_nest.specs.declared.nest.NestLine.TheVariants.{Commit as CommitLine, Abort as AbortLine}
 use Rattle.batch_nest.specs.Nest.{Body, body_lines, end_line}
-use Rattle.batch_nest.specs.Script.{IsValidLine, nest_printing, printed_line}
+use Rattle.batch_nest.specs.ReadingLaws.{one_line_word}
+use Rattle.batch_nest.specs.Script.{IsValidLine, line_numbers, line_word, nest_printing, printed_line}
 use Rattle.batch_nest.proofs.ShapeFacts.{heads, same_end}
 use Rattle.batch_nest.proofs.TellFacts.{ends_at, tells}
 
--- the word of a command begins no batch
-no_begin_word : (command : Command ℕ) → bytes_eq (word_of command) (codes "begin") ≡ false
-no_begin_word (Push value) = refl
-no_begin_word Pop = refl
-no_begin_word (Set at value) = refl
-no_begin_word (Alloc value) = refl
-no_begin_word (Free id) = refl
-no_begin_word (Put id value) = refl
-no_begin_word (Insert number) = refl
-no_begin_word (Remove number) = refl
-no_begin_word (Truncate kept) = refl
+-- the line of a word and its numbers
+abbrev line_from : List ℕ → List ℕ → NestLine ℕ
+line_from word numbers =
+    if bytes_eq word (codes "begin") then BeginLine
+    else if bytes_eq word (codes "commit") then CommitLine
+    else if bytes_eq word (codes "abort") then AbortLine
+    else CommandLine (command_from word numbers)
 
-begin_word : bytes_eq (codes "begin") (codes "begin") ≡ true
-begin_word = refl
+-- a line is made again of its word and its numbers
+same_again : (line : NestLine ℕ) → line_from (line_word line) (line_numbers line) ≡ line
+same_again (CommandLine (Push value)) = refl
+same_again (CommandLine Pop) = refl
+same_again (CommandLine (Set at value)) = refl
+same_again (CommandLine (Alloc value)) = refl
+same_again (CommandLine (Free id)) = refl
+same_again (CommandLine (Put id value)) = refl
+same_again (CommandLine (Insert number)) = refl
+same_again (CommandLine (Remove number)) = refl
+same_again (CommandLine (Truncate kept)) = refl
+same_again BeginLine = refl
+same_again CommitLine = refl
+same_again AbortLine = refl
 
--- so the line of a command begins none
-command_is_no_begin : (command : Command ℕ) → IsValidCommand command → command_line command ≡ codes "begin" → ⊥
-command_is_no_begin command valid same =
-    let parts = same_line (word_of command) (codes "begin") (numbers_of command) [] (one_word command) refl valid tt same in
-    let differ = no_begin_word command in
-    let begins = begin_word in
-    let words = ap (λ word. bytes_eq word (codes "begin")) parts.0 in
-    cc
-
--- a line of a nest is known by what it is printed as
-pub same_nest_line : (line other : NestLine ℕ) → IsValidLine line → IsValidLine other → printed_line line ≡ printed_line other
-    → line ≡ other
-same_nest_line (CommandLine command) (CommandLine other) valid sound same =
-    ap CommandLine (same_written_command command other valid sound same)
-same_nest_line (CommandLine command) BeginLine valid sound same = absurd (command_is_no_begin command valid same)
-same_nest_line (CommandLine command) CommitLine valid sound same = absurd (command_is_no_end command Commit valid same)
-same_nest_line (CommandLine command) AbortLine valid sound same = absurd (command_is_no_end command Abort valid same)
-same_nest_line BeginLine (CommandLine other) valid sound same = absurd (command_is_no_begin other sound (sym same))
-same_nest_line BeginLine BeginLine valid sound same = refl
-same_nest_line BeginLine CommitLine valid sound same = absurd (apart _ _ refl same)
-same_nest_line BeginLine AbortLine valid sound same = absurd (apart _ _ refl same)
-same_nest_line CommitLine (CommandLine other) valid sound same = absurd (command_is_no_end other Commit sound (sym same))
-same_nest_line CommitLine BeginLine valid sound same = absurd (apart _ _ refl same)
-same_nest_line CommitLine CommitLine valid sound same = refl
-same_nest_line CommitLine AbortLine valid sound same = absurd (apart _ _ refl same)
-same_nest_line AbortLine (CommandLine other) valid sound same = absurd (command_is_no_end other Abort sound (sym same))
-same_nest_line AbortLine BeginLine valid sound same = absurd (apart _ _ refl same)
-same_nest_line AbortLine CommitLine valid sound same = absurd (apart _ _ refl same)
-same_nest_line AbortLine AbortLine valid sound same = refl
+-- so it is known by what it is printed as
+same_nest_line : (line other : NestLine ℕ) → IsValidLine line → IsValidLine other → printed_line line ≡ printed_line other → line ≡ other
+same_nest_line = known_by_line line_word line_numbers one_line_word line_from same_again
 
 -- the other lines are these and more, and what follows these is the print of the more and what follows the others
 pub record IsLonger (lines others : List (NestLine ℕ)) (rest more : List Line) : Type 0 where

@@ -1,8 +1,9 @@
 -- What the parser has read so far of a script of nests, as plain items and lines.
-use Rattle.std.specs.Prelude.{⊤, ◌≡◌, ℕ, zero, suc, List, [], ◌∷◌, ◌++◌, map, codes, Option, Some, None}
+use Rattle.std.specs.Prelude.{⊤, ◌≡◌, ℕ, zero, suc, List, [], ◌∷◌, ◌++◌, map, Option, Some}
 use Rattle.std.specs.List.{AllByRecursion}
-use Rattle.batch_script.specs.Grammar.{Line, IsValidItemOver, all_lines_over}
+use Rattle.batch_script.specs.Grammar.{Line, Printing}
 use Rattle.batch_script.specs.Machine.{reserve, show, batch}
+use Rattle.batch_script.specs.Reading.{AreReadOver}
 use Rattle.batch_nest.specs.declared.item.NestItem.{NestItem}
 use Rattle.batch_nest.specs.declared.item.NestItem.TheVariants.{Reserve, Show, Nest as NestOf}
 use Rattle.batch_nest.specs.declared.nest.NestLine.{NestLine}
@@ -41,25 +42,14 @@ pub record IsOpenNest (begun : OpenNest) : Type 0 where
   pub valid : AllByRecursion IsValidLine begun.lines.items
   pub balanced : IsBalanced (begun.lines.items ++ commits begun.depth)
 
--- the lines of a nest that has begun and not ended, if there is one
-abbrev pub begun_lines : Option OpenNest → List Line
-begun_lines None = []
-begun_lines (Some begun) = codes "begin" ∷ map printed_line begun.lines.items
-
--- if there is one, it is an open nest
-abbrev pub IsOpenIfBegun : Option OpenNest → Type 0
-IsOpenIfBegun None = ⊤
-IsOpenIfBegun (Some begun) = IsOpenNest begun
-
--- these lines are those of the items, followed by those of the nest that has begun
-pub record AreNestsRead (items : List PlainNestItem) (begun : Option OpenNest) (lines : List Line) : Type 0 where
-  pub valid_items : AllByRecursion (IsValidItemOver nest_printing) items
-  pub valid_open : IsOpenIfBegun begun
-  pub same : lines ≡ all_lines_over nest_printing items ++ begun_lines begun
+-- a nest that has begun is printed as its lines
+abbrev pub open_printing : Printing OpenNest
+open_printing = record { body_lines = λ begun. map printed_line begun.lines.items; is_valid = IsOpenNest }
 
 -- these items were read, and then this nest begun, from these lines
 abbrev pub HaveRead : List NestItem → Option OpenNest → List Line → Type 0
-HaveRead items begun lines = (plains : List PlainNestItem) × StandFor items plains × AreNestsRead plains begun lines
+HaveRead items begun lines =
+    (plains : List PlainNestItem) × StandFor items plains × AreReadOver nest_printing open_printing plains begun lines
 
 -- the reading has taken these lines
 abbrev pub HasReadNests : NestReading → List Line → Type 0

@@ -1,23 +1,19 @@
 -- Each line of a nest is a word with up to two numbers, and what was read of a script of nests begins one.
 use Rattle.std.proofs.Common.{◌≡◌, ℕ, zero, suc, ◌≤◌, false, List, [], ◌∷◌, ◌++◌, length, map, refl, ap, sym, ◌∙◌, arith}
-use Rattle.std.proofs.Common.{append_assoc, append-nil, Some, None, subst}
-use Rattle.std.specs.Prelude.{Option}
+use Rattle.std.proofs.Common.{append_assoc, subst}
 use Rattle.std.specs.List.{AllByRecursion}
 use Rattle.std.proofs.lemmas.List.{map-append}
-use Rattle.std.proofs.lemmas.List.Concat.{flat_map-append}
 use Rattle.batch_core.specs.declared.command.End.TheVariants.{Commit}
-use Rattle.batch_script.specs.Grammar.{Line, IsValidItemOver, end_line, printed_over}
-use Rattle.batch_script.specs.Machine.{batch}
-use Rattle.batch_script.specs.Reading.{HasParts, HasPartsThroughout, HasSomeParts, has_space}
-use Rattle.batch_script.specs.ReadingLaws.{AllByRecursion-append, few_numbers, one_word}
+use Rattle.batch_script.specs.Grammar.{Line, end_line}
+use Rattle.batch_script.specs.Reading.{CanEnd, HasPartsThroughout, HasSomeParts, has_space}
+use Rattle.batch_script.specs.ReadingLaws.{AllByRecursion-append, all_have_parts, begins_over, few_numbers, one_word}
 use Rattle.batch_nest.specs.declared.nest.NestLine.{NestLine}
 use Rattle.batch_nest.specs.declared.nest.NestLine.TheVariants.{Command as CommandLine, Begin as BeginLine}
 use Rattle.batch_nest.specs.declared.nest.NestLine.TheVariants.{Commit as CommitLine, Abort as AbortLine}
 use Rattle.batch_nest.specs.declared.parser.NestReading.{NestReading}
-use Rattle.batch_nest.specs.declared.parser.OpenNest.{OpenNest}
 use Rattle.batch_nest.specs.Nest.{body_lines}
-use Rattle.batch_nest.specs.Reading.{AreNestsRead, HasReadNests, commits}
-use Rattle.batch_nest.specs.Script.{PlainNestItem, IsNestOpen, IsValidLine, line_numbers, line_word, nest_printing, printed_line}
+use Rattle.batch_nest.specs.Reading.{HasReadNests, commits, open_printing}
+use Rattle.batch_nest.specs.Script.{IsNestOpen, IsValidLine, line_numbers, line_word, nest_printing, printed_line}
 
 -- the word of a line has no space
 pub one_line_word : (line : NestLine ℕ) → has_space (line_word line) ≡ false
@@ -34,43 +30,38 @@ few_line_numbers CommitLine = omega arith
 few_line_numbers AbortLine = omega arith
 
 -- so a valid line is a word with up to two numbers
-pub line_has_parts : (line : NestLine ℕ) → IsValidLine line → HasParts (printed_line line) (line_word line) (line_numbers line)
-line_has_parts line valid = record { is_word = one_line_word line; writable = valid; same = refl }
-
-lines_have_parts : (lines : List (NestLine ℕ)) → AllByRecursion IsValidLine lines
-    → AllByRecursion HasSomeParts (map printed_line lines)
-lines_have_parts [] valid = tt
-lines_have_parts (line ∷ lines) valid =
-    ((line_word line, line_numbers line, few_line_numbers line, line_has_parts line valid.0), lines_have_parts lines valid.1)
+line_has_parts : (line : NestLine ℕ) → IsValidLine line → HasSomeParts (printed_line line)
+line_has_parts line valid = (
+  line_word line,
+  line_numbers line,
+  few_line_numbers line,
+  record { is_word = one_line_word line; writable = valid; same = refl },
+)
 
 -- and so is each line of a valid body
 pub nests_have_parts : HasPartsThroughout nest_printing
-nests_have_parts body valid = lines_have_parts (body_lines body) valid
+nests_have_parts body valid = all_have_parts IsValidLine printed_line line_has_parts (body_lines body) valid
 
 commits_are_valid : (depth : ℕ) → AllByRecursion IsValidLine (commits depth)
 commits_are_valid zero = tt
 commits_are_valid (suc depth) = (tt, commits_are_valid depth)
 
-begins_by : (items : List PlainNestItem) (begun : Option OpenNest) (lines : List Line) → AreNestsRead items begun lines
-    → IsNestOpen lines
-begins_by items None lines was = (items, [], was.valid_items, rw was.same (simp append-nil))
-begins_by items (Some begun) lines was =
+-- a nest that has begun can end: by a commit for each batch that is open
+nests_can_end : CanEnd nest_printing open_printing
+nests_can_end begun valid =
     let front = begun.lines.items in
     let ends = commits begun.depth in
-    let body = was.valid_open.balanced.0 in
-    let whole : map printed_line front ++ map printed_line ends ≡ map printed_line (body_lines body) =
-    sym (map-append printed_line front ends) ∙ ap (map printed_line) was.valid_open.balanced.1 in (
-      items ++ batch body Commit ∷ [],
-      map printed_line ends ++ end_line Commit ∷ [],
-      AllByRecursion-append (IsValidItemOver nest_printing) items (batch body Commit ∷ []) was.valid_items (
-        subst (AllByRecursion IsValidLine) was.valid_open.balanced.1
-            (AllByRecursion-append IsValidLine front ends was.valid_open.valid (commits_are_valid begun.depth)),
-        tt,
-      ),
-      rw (was.same, flat_map-append (printed_over nest_printing) items (batch body Commit ∷ []), sym whole)
-          (simp (append_assoc, append-nil)),
+    let body = valid.balanced.0 in
+    let last = end_line Commit ∷ [] in (
+      body,
+      Commit,
+      map printed_line ends ++ last,
+      subst (AllByRecursion IsValidLine) valid.balanced.1
+          (AllByRecursion-append IsValidLine front ends valid.valid (commits_are_valid begun.depth)),
+      sym (append_assoc (map printed_line front) (map printed_line ends) last)
+          ∙ ap (λ lines. lines ++ last) (sym (map-append printed_line front ends) ∙ ap (map printed_line) valid.balanced.1),
     )
 
 -- what was read begins a script of nests
 pub begins_nest_script : (reading : NestReading) (lines : List Line) → HasReadNests reading lines → IsNestOpen lines
-begins_nest_script reading lines was = begins_by was.0 reading.begun lines was.2
+begins_nest_script reading lines was = begins_over nest_printing open_printing nests_can_end was.0 reading.begun lines was.2

@@ -1,43 +1,19 @@
 -- The line of a command, read on its own.
-use Rattle.std.proofs.Common.{◌≡◌, ◌≢◌, ◌<◌, ℕ, false, List, [], ◌∷◌, length, get_or, append-nil, refl, sym, ap, subst, ◌∙◌, arith, inl}
+use Rattle.std.proofs.Common.{◌≡◌, ◌≢◌, ℕ, List, [], ◌∷◌, get_or, append-nil, refl, sym, ap, subst, ◌∙◌, inl}
 use Rattle.std.specs.Prelude.{Option, Some, None, IfSome, IfNone}
 use Rattle.batch_core.specs.declared.command.Command.{Command}
-use Rattle.batch_core.specs.declared.command.Command.TheVariants.{Push, Pop, Set, Alloc, Free, Put, Insert, Remove, Truncate}
-use Rattle.batch_script.specs.Front.{HasFault, IsOneLine, has_feed}
+use Rattle.batch_script.specs.Front.{HasFault, IsOneLine}
 use Rattle.batch_script.specs.Grammar.{Line, IsValidCommand, command_line, line_of, lines_of, numbers_of, word_of}
 use Rattle.batch_script.specs.Reading.{HasNoParts, HasParts}
+use Rattle.batch_script.specs.ReadingLaws.{command_facts}
 use Rattle.batch_script.proofs.CutFacts.{lines-first}
 use Rattle.batch_script.proofs.PartFacts.{line_no_feed}
 use Rattle.batch_script.proofs.ReadingFacts.{none_is_command, parts_are_no_command}
 
--- no line feed stands in the word of a command
-word_no_feed : (command : Command ℕ) → has_feed (word_of command) ≡ false
-word_no_feed (Push value) = refl
-word_no_feed Pop = refl
-word_no_feed (Set at value) = refl
-word_no_feed (Alloc value) = refl
-word_no_feed (Free id) = refl
-word_no_feed (Put id value) = refl
-word_no_feed (Insert number) = refl
-word_no_feed (Remove number) = refl
-word_no_feed (Truncate kept) = refl
-
--- the line of a command isn't empty
-some_bytes : (command : Command ℕ) → 0 < length (command_line command)
-some_bytes (Push value) = omega arith
-some_bytes Pop = omega arith
-some_bytes (Set at value) = omega arith
-some_bytes (Alloc value) = omega arith
-some_bytes (Free id) = omega arith
-some_bytes (Put id value) = omega arith
-some_bytes (Insert number) = omega arith
-some_bytes (Remove number) = omega arith
-some_bytes (Truncate kept) = omega arith
-
 -- the line of a command is one line
 pub command_one_line : (command : Command ℕ) → IsValidCommand command → IsOneLine (command_line command)
 command_one_line command valid =
-    (some_bytes command, line_no_feed (word_of command) (numbers_of command) (word_no_feed command) valid)
+    let facts = command_facts command in (facts.3, line_no_feed (word_of command) (numbers_of command) facts.1 valid)
 
 -- one line is the first of its lines
 first_of_one : (line first : Line) (lines : List Line) → IsOneLine line → lines_of line ≡ first ∷ lines → first ≡ line

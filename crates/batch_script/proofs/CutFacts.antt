@@ -38,10 +38,7 @@ none_in_decimal wanted number small =
     (λ number digits _ none. list_any-append (nat_eq wanted) digits _
     ∙ or_from _ _ none (or_from _ false (digit_is_none wanted (number % 10) small) refl)) number
 
--- a text with no line feed, and behind it the end of the line
-lines-feed : (bytes : List ℕ) → lines_of (10 ∷ bytes) ≡ [] ∷ lines_of bytes
-lines-feed bytes = refl
-
+-- a byte that is no line feed stands in the first line
 lines-other : (byte : ℕ) (bytes : List ℕ) → byte ≢ 10 → lines_of (byte ∷ bytes) ≡ with_byte byte (lines_of bytes)
 lines-other byte bytes other = grind (arith, nat_tests)
 
@@ -61,6 +58,7 @@ lines-at_end : (line : List ℕ) → has_feed line ≡ false → 0 < length line
 lines-at_end [] none some = absurd (omega arith)
 lines-at_end (byte ∷ line) none some = lines-last byte line none
 
+-- a text with no line feed, and behind it the end of the line, is the first line
 pub lines-first : (input line rest later : List ℕ) → input ≡ line ++ rest → has_feed line ≡ false → EndsLine rest later
     → 0 < length input → lines_of input ≡ line ∷ lines_of later
 lines-first input line rest later is none ends some =

@@ -1,5 +1,5 @@
 -- A line of a word and numbers can be read in one way alone.
-use Rattle.std.proofs.Common.{◌≡◌, ℕ, true, false, List, [], ◌∷◌, ◌++◌, map, refl, sym, ap, subst, ◌∙◌, arith}
+use Rattle.std.proofs.Common.{◌≡◌, ◌≢◌, ℕ, true, false, List, [], ◌∷◌, ◌++◌, map, refl, sym, ap, subst, ◌∙◌, arith}
 use Rattle.std.specs.Prelude.{nat_eq}
 use Rattle.std.specs.List.{AllByRecursion, join_with_byte}
 use Rattle.std.specs.Fmt.{decimal}
@@ -8,7 +8,7 @@ use Rattle.std.proofs.Math.Bool.{or-true}
 use Rattle.std.proofs.lemmas.List.Folds.{list_any-append}
 use Rattle.std.proofs.lemmas.Fmt.{decimal_injective}
 use Rattle.batch_script.specs.Grammar.{IsWritable, line_of}
-use Rattle.batch_script.specs.Reading.{has_space}
+use Rattle.batch_script.specs.Reading.{HasParts, has_space}
 use Rattle.batch_script.proofs.CutFacts.{none_in_decimal}
 
 -- the texts are words: no space stands in them
@@ -83,3 +83,20 @@ same_line word other numbers others is be valid sound same =
     let parts = same_words word other (map decimal numbers) (map decimal others) (is, decimals_are_words numbers valid)
     (be, decimals_are_words others sound) same in
     (parts.0, same_numbers numbers others valid sound parts.1)
+
+module _ {X : Type 0} (word_of numbers_of : X → List ℕ) (one_word : (x : X) → has_space (word_of x) ≡ false) where
+  -- a line of a word and numbers that no x has is the line of none
+  pub line_of_none : (line word numbers : List ℕ) → HasParts line word numbers
+      → ((x : X) → numbers_of x ≡ numbers → word_of x ≢ word)
+      → (x : X) → AllByRecursion IsWritable (numbers_of x) → line ≢ line_of (word_of x) (numbers_of x)
+  line_of_none line word numbers has never x valid is =
+      let same = same_line (word_of x) word (numbers_of x) numbers (one_word x) has.is_word valid has.writable (sym is ∙ has.same) in
+      never x same.1 same.0
+
+  -- an x is known by its line if it is made again of its word and its numbers
+  pub known_by_line : (from : List ℕ → List ℕ → X) → ((x : X) → from (word_of x) (numbers_of x) ≡ x) → (x other : X)
+      → AllByRecursion IsWritable (numbers_of x) → AllByRecursion IsWritable (numbers_of other)
+      → line_of (word_of x) (numbers_of x) ≡ line_of (word_of other) (numbers_of other) → x ≡ other
+  known_by_line from again x other valid sound same =
+      let parts = same_line (word_of x) (word_of other) (numbers_of x) (numbers_of other) (one_word x) (one_word other) valid sound same in
+      sym (again x) ∙ (λ i. from (parts.0 i) (parts.1 i)) ∙ again other

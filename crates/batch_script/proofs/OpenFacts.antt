@@ -1,14 +1,12 @@
 -- What begins a script, and the line of the fault where none goes on.
 use Rattle.std.proofs.Common.{◌≡◌, ℕ, ◌+◌, ◌<◌, ◌≤◌, List, [], ◌∷◌, ◌++◌, length, take, drop, sym, ap, ◌∙◌, subst}
 use Rattle.std.proofs.Common.{inl, inr, arith, append_assoc, length-drop, take-take, refl}
-use Rattle.std.specs.List.{AllByRecursion}
 use Rattle.std.proofs.lemmas.List.{take-append-drop, append-nil, drop-drop}
 use Rattle.std.proofs.lemmas.List.Concat.{flat_map-append}
 use Rattle.std.proofs.Math.Seq.{take-add}
 use Rattle.batch_script.specs.Machine.{ItemOf}
-use Rattle.batch_script.specs.Grammar.{Line, lines_of, Printing, TellsBodies, IsValidItemOver, printed_over, all_lines_over}
+use Rattle.batch_script.specs.Grammar.{Line, lines_of, Printing, printed_over, all_lines_over}
 use Rattle.batch_script.specs.Grammar.{IsOpenOver, IsScriptOver, IsFaultLineOver}
-use Rattle.batch_script.proofs.PrefixFacts.{rest-after_items, StartsItem, starts_item}
 
 -- where line comes after the first count lines, the first count + 1 lines are those and line
 pub take_next : (lines : List Line) (count : ℕ) (line : Line) (later : List Line) → drop count lines ≡ line ∷ later
@@ -82,28 +80,3 @@ module _ {B : Type 0} (printing : Printing B) where
         before = λ fewer below. fewer_open (lines_of input) count fewer (omega arith) opened;
         least = inr (omega arith);
       }
-
-module _ {B : Type 0} (printing : Printing B) (told : TellsBodies printing) (items : List (ItemOf B)) (begun lines : List Line)
-    (valid : AllByRecursion (IsValidItemOver printing) items) (are : lines ≡ all_lines_over printing items ++ begun) where
-  -- behind the lines of items and of what has begun no line goes on with which no items are printed
-  pub stuck_behind : (line : Line) → ((rest : List Line) (more : List (ItemOf B)) → AllByRecursion (IsValidItemOver printing) more
-      → begun ++ line ∷ rest ≡ all_lines_over printing more → ⊥) → IsOpenOver printing (lines ++ line ∷ []) → ⊥
-  stuck_behind line never opened =
-      let apart : all_lines_over printing items ++ (begun ++ line ∷ opened.1) ≡ all_lines_over printing opened.0 =
-      simp (are, append_assoc) at opened.3 in
-      let more = rest-after_items printing told items opened.0 (begun ++ line ∷ opened.1) valid opened.2 apart in
-      never opened.1 more.0 more.2 more.1
-
-  -- nor does a line that starts no item where nothing has begun
-  pub stuck_at_start : (line : Line) → begun ≡ [] → ¬ StartsItem printing line → IsOpenOver printing (lines ++ line ∷ []) → ⊥
-  stuck_at_start line none never =
-      stuck_behind line (λ rest more sound same.
-      never (starts_item printing line rest more sound (ap (λ front. front ++ line ∷ rest) (sym none) ∙ same)))
-
-  -- an input of these lines is no script if no items are printed as what has begun
-  pub begun_is_stuck : (input : List ℕ) → lines ≡ lines_of input → ((more : List (ItemOf B))
-      → AllByRecursion (IsValidItemOver printing) more → begun ≡ all_lines_over printing more → ⊥) → IsScriptOver printing input → ⊥
-  begun_is_stuck input same never script =
-      let apart : all_lines_over printing items ++ begun ≡ all_lines_over printing script.0 = sym are ∙ same ∙ script.1.lines in
-      let more = rest-after_items printing told items script.0 begun valid script.1.valid apart in
-      never more.0 more.2 more.1

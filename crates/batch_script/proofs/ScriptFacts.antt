@@ -1,5 +1,5 @@
 -- The lines of a script can be read as items in one way alone.
-use Rattle.std.proofs.Common.{◌≡◌, ℕ, Bool, true, false, ◌||◌, List, [], ◌∷◌, ◌++◌, get_or, refl, sym, ap, ◌∙◌, arith}
+use Rattle.std.proofs.Common.{◌≡◌, ℕ, Bool, true, false, ◌||◌, List, [], ◌∷◌, ◌++◌, get_or, refl, sym, ap, arith}
 use Rattle.std.specs.Prelude.{codes, nat_eq, bytes_eq, if◌then◌else◌}
 use Rattle.std.specs.List.{AllByRecursion}
 use Rattle.std.proofs.lemmas.Bool.Decides.{nat_tests}
@@ -13,61 +13,42 @@ use Rattle.batch_script.specs.Grammar.{Printing, TellsBodies, ended_lines, print
 use Rattle.batch_script.specs.Laws.{LinesTellItemsOver}
 use Rattle.batch_script.specs.Reading.{has_space}
 use Rattle.batch_script.specs.ReadingLaws.{one_word}
-use Rattle.batch_script.proofs.LineFacts.{same_line}
+use Rattle.batch_script.proofs.LineFacts.{known_by_line, same_line}
 
 -- the command of a word and its numbers
-abbrev command_from : List ℕ → ℕ → ℕ → Command ℕ
-command_from word first second =
-    if bytes_eq word (codes "push") then Push first
+abbrev pub command_from : List ℕ → List ℕ → Command ℕ
+command_from word numbers =
+    if bytes_eq word (codes "push") then Push (get_or numbers 0 0)
     else if bytes_eq word (codes "pop") then Pop
-    else if bytes_eq word (codes "set") then Set first second
-    else if bytes_eq word (codes "alloc") then Alloc first
-    else if bytes_eq word (codes "free") then Free first
-    else if bytes_eq word (codes "put") then Put first second
-    else if bytes_eq word (codes "insert") then Insert first
-    else if bytes_eq word (codes "remove") then Remove first
-    else Truncate first
-
--- the command that these parts of it make
-abbrev made_again : Command ℕ → Command ℕ
-made_again command = command_from (word_of command) (get_or (numbers_of command) 0 0) (get_or (numbers_of command) 1 0)
-
-same_again : (command : Command ℕ) → made_again command ≡ command
-same_again (Push value) = refl
-same_again Pop = refl
-same_again (Set at value) = refl
-same_again (Alloc value) = refl
-same_again (Free id) = refl
-same_again (Put id value) = refl
-same_again (Insert number) = refl
-same_again (Remove number) = refl
-same_again (Truncate kept) = refl
+    else if bytes_eq word (codes "set") then Set (get_or numbers 0 0) (get_or numbers 1 0)
+    else if bytes_eq word (codes "alloc") then Alloc (get_or numbers 0 0)
+    else if bytes_eq word (codes "free") then Free (get_or numbers 0 0)
+    else if bytes_eq word (codes "put") then Put (get_or numbers 0 0) (get_or numbers 1 0)
+    else if bytes_eq word (codes "insert") then Insert (get_or numbers 0 0)
+    else if bytes_eq word (codes "remove") then Remove (get_or numbers 0 0)
+    else Truncate (get_or numbers 0 0)
 
 -- whether a word ends a batch
 abbrev is_end : List ℕ → Bool
 is_end word = bytes_eq word (codes "commit") || bytes_eq word (codes "abort")
 
--- the word of a command ends no batch
-pub no_end_word : (command : Command ℕ) → is_end (word_of command) ≡ false
-no_end_word (Push value) = refl
-no_end_word Pop = refl
-no_end_word (Set at value) = refl
-no_end_word (Alloc value) = refl
-no_end_word (Free id) = refl
-no_end_word (Put id value) = refl
-no_end_word (Insert number) = refl
-no_end_word (Remove number) = refl
-no_end_word (Truncate kept) = refl
+-- a command is made again of its word and its numbers, and its word ends no batch
+command_known : (command : Command ℕ) → (command_from (word_of command) (numbers_of command) ≡ command)
+    × (is_end (word_of command) ≡ false)
+command_known (Push value) = (refl, refl)
+command_known Pop = (refl, refl)
+command_known (Set at value) = (refl, refl)
+command_known (Alloc value) = (refl, refl)
+command_known (Free id) = (refl, refl)
+command_known (Put id value) = (refl, refl)
+command_known (Insert number) = (refl, refl)
+command_known (Remove number) = (refl, refl)
+command_known (Truncate kept) = (refl, refl)
 
--- a command is known by its line
+-- so it is known by its line
 pub same_command : (command other : Command ℕ) → IsValidCommand command → IsValidCommand other → command_line command ≡ command_line other
     → command ≡ other
-same_command command other valid sound same =
-    let parts = same_line (word_of command) (word_of other) (numbers_of command) (numbers_of other) (one_word command)
-    (one_word other) valid sound same in
-    sym (same_again command)
-    ∙ (λ i. command_from (parts.0 i) (get_or (parts.1 i) 0 0) (get_or (parts.1 i) 1 0))
-    ∙ same_again other
+same_command = known_by_line word_of numbers_of one_word command_from (λ command. (command_known command).0)
 
 -- the line that ends a batch has no space, and is a word that ends a batch
 pub end_word : (ending : End) → (has_space (end_line ending) ≡ false) × (is_end (end_line ending) ≡ true)
@@ -79,7 +60,7 @@ pub command_is_no_end : (command : Command ℕ) (ending : End) → IsValidComman
 command_is_no_end command ending valid same =
     let parts = same_line (word_of command) (end_line ending) (numbers_of command) [] (one_word command)
     (end_word ending).0 valid tt same in
-    let not_end = no_end_word command in
+    let not_end = (command_known command).1 in
     let ends = (end_word ending).1 in
     let words = ap is_end parts.0 in
     cc

@@ -106,28 +106,25 @@ module _ (meaning : Meaning) (sound : IsMeaning meaning) (words : List TryString
     write_fault = λ is. absurd (cc);
   }
 
-  -- which results there are after the writing
-  ends_by : (sink : Use) (writes : ℕ → Type 0) (result status : Status) → CallsFor meaning words source status text
-      → Finishes text status sink writes result → EndsAmong meaning words source sink result
-  ends_by sink writes result status called (inl wrote) =
-      subst (EndsAmong meaning words source sink) (sym wrote.0) (calls_among sink status called)
-  ends_by sink writes result status called (inr failed) = record {
-    script = λ input offers within is. inr (inr (inr (inl failed.0)));
-    no_script = λ input offers within none. inr (inr (inr (inl failed.0)));
-    too_long = λ input offers beyond. inr (inr (inr (inl failed.0)));
-    text = λ other asks. inr (inr (inl failed.0));
-    usage = λ asks. inr (inl failed.0);
-    only_usage = λ is. let bad : Usage ≡ WriteFault = sym is ∙ failed.0 in absurd (cc);
-    read_fault = λ is. let bad : ReadFault ≡ WriteFault = sym is ∙ failed.0 in absurd (cc);
-    write_fault = λ is. failed.1.rose;
-  }
-
 -- the results that a call can have, by how it came to this one
 pub ends_lem : (meaning : Meaning) → IsMeaning meaning
     → (words : List TryString) (source sink : Use) (writes : ℕ → Type 0) (result : Status)
     → Concludes meaning words source sink writes result → EndsAmong meaning words source sink result
 ends_lem meaning sound words source sink writes result how =
-    ends_by meaning sound words source how.text sink writes result how.status how.called_for how.finished
+    elim how.finished [
+      | inl wrote ↦ subst (EndsAmong meaning words source sink) (sym wrote.0)
+          (calls_among meaning sound words source how.text sink how.status how.called_for)
+      | inr failed ↦ record {
+        script = λ input offers within is. inr (inr (inr (inl failed.0)));
+        no_script = λ input offers within none. inr (inr (inr (inl failed.0)));
+        too_long = λ input offers beyond. inr (inr (inr (inl failed.0)));
+        text = λ other asks. inr (inr (inl failed.0));
+        usage = λ asks. inr (inl failed.0);
+        only_usage = λ is. let bad : Usage ≡ WriteFault = sym is ∙ failed.0 in absurd (cc);
+        read_fault = λ is. let bad : ReadFault ≡ WriteFault = sym is ∙ failed.0 in absurd (cc);
+        write_fault = λ is. failed.1.rose;
+      }
+    ]
 
 -- The whole text was written, which is one that the result calls for.
 pub record Wrote (meaning : Meaning) (words : List TryString) (source sink : Use) (result : Status) : Type 0 where
@@ -135,21 +132,18 @@ pub record Wrote (meaning : Meaning) (words : List TryString) (source sink : Use
   pub called_for : CallsFor meaning words source result text
   pub gained : OfTold sink (λ held. sink.told_after ≡ Some (held ++ text))
 
-wrote_by : (meaning : Meaning) (words : List TryString) (source sink : Use) (writes : ℕ → Type 0) (result status : Status) (text : List ℕ)
-    → CallsFor meaning words source status text → Finishes text status sink writes result → ¬ HasFaults sink
-    → Wrote meaning words source sink result
-wrote_by meaning words source sink writes result status text called (inl wrote) quiet = record {
-  text = text;
-  called_for = subst (λ s. CallsFor meaning words source s text) (sym wrote.0) called;
-  gained = wrote.1.gained;
-}
-wrote_by meaning words source sink writes result status text called (inr failed) quiet = absurd (quiet failed.1.rose)
-
 -- so it is if no write failed
 pub wrote_lem : (meaning : Meaning) (words : List TryString) (source sink : Use) (writes : ℕ → Type 0) (result : Status)
     → Concludes meaning words source sink writes result → ¬ HasFaults sink → Wrote meaning words source sink result
 wrote_lem meaning words source sink writes result how quiet =
-    wrote_by meaning words source sink writes result how.status how.text how.called_for how.finished quiet
+    elim how.finished [
+      | inl wrote ↦ record {
+        text = how.text;
+        called_for = subst (λ s. CallsFor meaning words source s how.text) (sym wrote.0) how.called_for;
+        gained = wrote.1.gained;
+      }
+      | inr failed ↦ absurd (quiet failed.1.rose)
+    ]
 
 -- of these two results and two faults, quiet devices leave the two results
 pub two_left : (first result : Status) (source sink : Use) → IsAmong (first ∷ Oom ∷ ReadFault ∷ WriteFault ∷ []) result
@@ -205,20 +199,6 @@ pub record IsOfScripts {B : Type 0} (bodies : Bodies B) (printing : Printing B) 
 
 module _ {B : Type 0} (bodies : Bodies B) (printing : Printing B) (told : TellsBodies printing) (meaning : Meaning)
     (known : IsOfScripts bodies printing meaning) where
-  headline_by : (words : List TryString) (source sink : Use) (result : Status) (input held : List ℕ) (items : List (ItemOf B))
-      → Wrote meaning words source sink result → PremisesOver printing words source sink input held items
-      → (result ≡ Done) ⊎ (result ≡ Oom)
-      → RunsWholeOver bodies result sink.told_after held items ⊎ WantsMemory result sink.told_after held
-  headline_by words source sink result input held items wrote premises (inl is) =
-      let called : CallsFor meaning words source Done wrote.text =
-      subst (λ s. CallsFor meaning words source s wrote.text) is wrote.called_for in
-      let replies = replies_of meaning known.sound words source wrote.text called.1 premises.no_words in
-      inl (runs bodies printing told result sink.told_after input held wrote.text items is
-      (known.replies input wrote.text (replies.replies input premises.source_tells)) premises.script
-      (wrote.gained held premises.sink_tells))
-  headline_by words source sink result input held items wrote premises (inr is) =
-      inr (wants meaning words source sink result held wrote premises.sink_tells is)
-
   -- the headline, by how the call came to its result
   pub headline_over : (words : List TryString) (source sink : Use) (writes : ℕ → Type 0) (result : Status)
       → Concludes meaning words source sink writes result → (input held : List ℕ) (items : List (ItemOf B))
@@ -226,12 +206,20 @@ module _ {B : Type 0} (bodies : Bodies B) (printing : Printing B) (told : TellsB
       → RunsWholeOver bodies result sink.told_after held items ⊎ WantsMemory result sink.told_after held
   headline_over words source sink writes result how input held items premises =
       let ends = ends_lem meaning known.sound words source sink writes result how in
-      headline_by words source sink result input held items
-      (wrote_lem meaning words source sink writes result how premises.sink_quiet) premises
-      (two_left Done result source sink
+      let wrote = wrote_lem meaning words source sink writes result how premises.sink_quiet in
+      elim (two_left Done result source sink
       (ends.script input (record { no_words = premises.no_words; told = premises.source_tells }) premises.within_limit
       (known.scripts input (items, premises.script)))
-      ends.read_fault ends.write_fault premises.source_quiet premises.sink_quiet)
+      ends.read_fault ends.write_fault premises.source_quiet premises.sink_quiet) [
+        | inl is ↦
+            let called : CallsFor meaning words source Done wrote.text =
+            subst (λ s. CallsFor meaning words source s wrote.text) is wrote.called_for in
+            let replies = replies_of meaning known.sound words source wrote.text called.1 premises.no_words in
+            inl (runs bodies printing told result sink.told_after input held wrote.text items is
+            (known.replies input wrote.text (replies.replies input premises.source_tells)) premises.script
+            (wrote.gained held premises.sink_tells))
+        | inr is ↦ inr (wants meaning words source sink result held wrote premises.sink_tells is)
+      ]
 
 -- ---- the program of batches
 
@@ -245,27 +233,13 @@ pub headline_lem : (words : List TryString) (source sink : Use) (writes : ℕ �
     → RunsWhole result sink.told_after held items ⊎ WantsMemory result sink.told_after held
 headline_lem = headline_over batches batch_printing batches_told batch_meaning batches_known
 
-summary_by : (words : List TryString) (source sink : Use) (result : Status) (seed count : ℕ) (held : List ℕ)
-    → Wrote batch_meaning words source sink result → AsksForRun words seed count → sink.told ≡ Some held
-    → (result ≡ Done) ⊎ (result ≡ Oom)
-    → SummarizesRun result sink.told_after held seed count ⊎ WantsMemory result sink.told_after held
-summary_by words source sink result seed count held wrote asks told (inl is) =
-    let called : CallsFor batch_meaning words source Done wrote.text =
-    subst (λ s. CallsFor batch_meaning words source s wrote.text) is wrote.called_for in
-    inl (record {
-      done = is;
-      gained = wrote.gained held told ∙ ap (λ bytes. Some (held ++ bytes)) (text_is wrote.text called.1);
-    })
-  where
-    text_is : (text : List ℕ) → RepliesTo batch_meaning words source text ⊎ AsksForSummary words text
-        → text ≡ summary_text (generated seed count)
-    text_is text (inl replies) = absurd (some_words words seed count replies.no_words asks)
-    text_is text (inr asked) =
-        let same = one_run (map (λ word. word.bytes) words) asked.seed asked.count seed count asked.asks asks in
-        asked.tells ∙ (ap (λ from. summary_text (generated from asked.count)) same.0
-        ∙ ap (λ many. summary_text (generated seed many)) same.1)
-summary_by words source sink result seed count held wrote asks told (inr is) =
-    inr (wants batch_meaning words source sink result held wrote told is)
+-- the text of a run that was asked for is the summary
+summary_is : (words : List TryString) (source : Use) (seed count : ℕ) (text : List ℕ) → AsksForRun words seed count
+    → RepliesTo batch_meaning words source text ⊎ AsksForSummary words text → text ≡ summary_text (generated seed count)
+summary_is words source seed count text asks (inl replies) = absurd (some_words words seed count replies.no_words asks)
+summary_is words source seed count text asks (inr asked) =
+    let same = one_run (map (λ word. word.bytes) words) asked.seed asked.count seed count asked.asks asks in
+    asked.tells ∙ (λ i. summary_text (generated (same.0 i) (same.1 i)))
 
 -- the summary, by how the call came to its result
 pub summary_lem : (words : List TryString) (source sink : Use) (writes : ℕ → Type 0) (result : Status)
@@ -274,10 +248,20 @@ pub summary_lem : (words : List TryString) (source sink : Use) (writes : ℕ →
     → SummarizesRun result sink.told_after held seed count ⊎ WantsMemory result sink.told_after held
 summary_lem words source sink writes result how seed count held asks told quiet =
     let ends = ends_lem batch_meaning batch_sound words source sink writes result how in
+    let wrote = wrote_lem batch_meaning words source sink writes result how quiet in
     let asked : AsksForSummary words (summary_text (generated seed count)) =
     record { seed = seed; count = count; asks = asks; tells = refl } in
-    summary_by words source sink result seed count held (wrote_lem batch_meaning words source sink writes result how quiet) asks told
-    (two_left_unread Done result sink (ends.text (summary_text (generated seed count)) asked) ends.write_fault quiet)
+    elim (two_left_unread Done result sink (ends.text (summary_text (generated seed count)) asked) ends.write_fault quiet) [
+      | inl is ↦
+          let called : CallsFor batch_meaning words source Done wrote.text =
+          subst (λ s. CallsFor batch_meaning words source s wrote.text) is wrote.called_for in
+          inl (record {
+            done = is;
+            gained = wrote.gained held told
+                ∙ ap (λ bytes. Some (held ++ bytes)) (summary_is words source seed count wrote.text asks called.1);
+          })
+      | inr is ↦ inr (wants batch_meaning words source sink result held wrote told is)
+    ]
 
 -- ---- what was read
 

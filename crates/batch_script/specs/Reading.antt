@@ -3,6 +3,7 @@ use Rattle.std.specs.Prelude.{⊤, ◌≡◌, ◌≢◌, ℕ, slice_index, ◌<�
 use Rattle.std.specs.Prelude.{Option, Some, None, IsSome, option_map}
 use Rattle.std.specs.List.{AllByRecursion, list_any}
 use Rattle.batch_core.specs.declared.command.Command.{Command}
+use Rattle.batch_core.specs.declared.command.End.{End}
 use Rattle.batch_core.specs.declared.command.End.TheVariants.{Commit}
 use Rattle.batch_script.specs.declared.item.Item.{Item}
 use Rattle.batch_script.specs.declared.item.Item.TheVariants.{Reserve, Show, Batch}
@@ -12,8 +13,8 @@ use Rattle.batch_script.specs.declared.parser.Reading.{Reading}
 use Rattle.batch_script.specs.declared.parser.Start.{Start}
 use Rattle.batch_script.specs.declared.parser.Start.TheVariants.{Reserve as StartsReserve, Show as StartsShow, Begin as StartsBatch}
 use Rattle.batch_script.specs.Machine.{ItemOf, PlainItem, reserve, show, batch}
-use Rattle.batch_script.specs.Grammar.{Line, IsWritable, IsValidItem, IsValidCommand, all_lines, command_line, line_of, lines_of}
-use Rattle.batch_script.specs.Grammar.{Printing, batch_printing, IsOpenOver}
+use Rattle.batch_script.specs.Grammar.{Line, IsWritable, line_of, lines_of}
+use Rattle.batch_script.specs.Grammar.{Printing, batch_printing, IsOpenOver, IsValidItemOver, all_lines_over, ended_lines}
 
 -- whether a space stands in the text
 abbrev pub has_space : List ℕ → Bool
@@ -85,6 +86,32 @@ module _ {B R : Type 0} (printing : Printing B) (Had : R → List Line → Type 
       (line : Line) × (later : List Line) × (lines_of input ≡ line ∷ later)
       × ((lines : List Line) → Had old lines → ¬ IsOpenOver printing (lines ++ line ∷ []))
 
+-- ---- what was read, whatever the bodies of items are
+
+-- What has begun and not ended is printed as lines behind the one that begins it, as bodies are, and may be valid.
+module _ {O : Type 0} (opened : Printing O) where
+  -- the lines of what has begun, if there is such
+  abbrev pub open_lines_over : Option O → List Line
+  open_lines_over None = []
+  open_lines_over (Some begun) = codes "begin" ∷ opened.body_lines begun
+
+  -- if there is such, it is valid
+  abbrev pub IsValidOpenOver : Option O → Type 0
+  IsValidOpenOver None = ⊤
+  IsValidOpenOver (Some begun) = opened.is_valid begun
+
+module _ {B O : Type 0} (printing : Printing B) (opened : Printing O) where
+  -- these lines are those of the items, followed by those of what has begun
+  pub record AreReadOver (items : List (ItemOf B)) (begun : Option O) (lines : List Line) : Type 0 where
+    pub valid_items : AllByRecursion (IsValidItemOver printing) items
+    pub valid_open : IsValidOpenOver opened begun
+    pub same : lines ≡ all_lines_over printing items ++ open_lines_over opened begun
+
+  -- what has begun and is valid goes on to a valid body and its end
+  abbrev pub CanEnd : Type 0
+  CanEnd = (begun : O) → opened.is_valid begun → (body : B) × (ending : End) × (rest : List Line)
+      × printing.is_valid body × (opened.body_lines begun ++ rest ≡ ended_lines printing body ending)
+
 -- ---- scripts of batches
 
 -- an item of the parser as a plain item
@@ -97,21 +124,9 @@ plain_item (Batch read) = batch read.commands.items read.end
 abbrev pub plain_items : List Item → List PlainItem
 plain_items = map plain_item
 
--- the lines of a batch that has begun and not ended, if there is one
-abbrev pub open_lines : Option (List (Command ℕ)) → List Line
-open_lines None = []
-open_lines (Some commands) = codes "begin" ∷ map command_line commands
-
--- the commands of a batch that has begun have only numbers that a script can write
-abbrev pub IsValidOpen : Option (List (Command ℕ)) → Type 0
-IsValidOpen None = ⊤
-IsValidOpen (Some commands) = AllByRecursion IsValidCommand commands
-
 -- these lines are those of the items, followed by those of the batch that has begun
-pub record AreRead (items : List PlainItem) (begun : Option (List (Command ℕ))) (lines : List Line) : Type 0 where
-  pub valid_items : AllByRecursion IsValidItem items
-  pub valid_open : IsValidOpen begun
-  pub same : lines ≡ all_lines items ++ open_lines begun
+abbrev pub AreRead : List PlainItem → Option (List (Command ℕ)) → List Line → Type 0
+AreRead = AreReadOver batch_printing batch_printing
 
 -- the commands of the batch that has begun, if there is one
 abbrev pub begun_in : Reading → Option (List (Command ℕ))

@@ -3,17 +3,13 @@ use Rattle.std.specs.Prelude.{◌≡◌, ◌≤◌, ℕ, List, [], ◌∷◌, �
 use Rattle.batch_core.specs.State.{State, empty_state}
 use Rattle.batch_core.specs.Workspace.{Workspace}
 use Rattle.batch_script.specs.Grammar.{Printing, batch_printing, IsScriptOfOver}
-use Rattle.batch_script.specs.Machine.{ItemOf, PlainItem, Bodies, batches, Reply, ItemStepOver, RunOver}
+use Rattle.batch_script.specs.Machine.{ItemOf, Bodies, batches, Reply, ItemStepOver, RunOver}
 use Rattle.batch_script.specs.Reply.{reply_lines, text_of, text_of_lines}
 
 -- the text is that of the replies of one run of the items from empty
 abbrev pub IsTextOfRunOver : {B : Type 0} → Bodies B → List (ItemOf B) → List ℕ → Type 0
 IsTextOfRunOver bodies items text =
     (replies : List Reply) × RunOver bodies empty_state items replies × (text ≡ text_of replies)
-
--- so it is for the items of a script of batches
-abbrev pub IsTextOfRun : List PlainItem → List ℕ → Type 0
-IsTextOfRun = IsTextOfRunOver batches
 
 -- the input is a script, and the text is that of one run of its items from empty
 abbrev pub IsRunTextOver : {B : Type 0} → Bodies B → Printing B → List ℕ → List ℕ → Type 0

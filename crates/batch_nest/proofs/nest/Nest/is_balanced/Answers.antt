@@ -2,8 +2,7 @@ use Rattle.std.proofs.Common.{◌+◌, ◌∷◌, drop, sym, ap, subst, ◌∙�
 use Rattle.std.proofs.lemmas.List.{drop_more, drop_all}
 use Rattle.std.proofs.lemmas.Bool.{eqb-true, eq-eqb}
 use Rattle.batch_nest.specs.Nest.{IsBalanced}
-use Rattle.batch_nest.proofs.LineFacts.{IsOpenFor, after_command_line, after_begin_line, after_end_line, unbalanced_end}
-use Rattle.batch_nest.proofs.LineFacts.{balanced_in_the_end}
+use Rattle.batch_nest.proofs.LineFacts.{Steps, after_line, balanced_in_the_end, step_begin, step_command, step_end, unbalanced_end}
 use Rattle.batch_nest.proofs.nest.Nest.is_balanced.Goals.{in-Command, in-Begin, in-Commit+else-depth-eq0}
 use Rattle.batch_nest.proofs.nest.Nest.is_balanced.Goals as goal
 
@@ -31,15 +30,17 @@ loop-line-preserved g c =
     let few = c.loop-line.invariant.few in
     elim c.match-line.branch [
       | in-Command w ↦ record {
-        left = subst (IsOpenFor items _) (sym w.depth-is) (after_command_line items _ line _ _ _ split w.in-Command.is now);
+        left = after_line items _ line _ _ _ split
+            (subst (λ next. Steps c.loop-line.depth next line) (sym w.depth-is) (step_command line _ _ w.in-Command.is)) now;
         few = omega (arith, few, w.depth-is);
       }
       | in-Begin w ↦ record {
-        left = after_begin_line items _ line _ _ _ split w.in-Begin.is w.depth-is now;
+        left = after_line items _ line _ _ _ split (step_begin line _ _ w.in-Begin.is w.depth-is) now;
         few = omega (arith, few, w.depth-is);
       }
       | in-Commit+else-depth-eq0 w ↦ record {
-        left = after_end_line items _ line _ _ _ split w.in-Commit.is (omega (arith, w.depth-is, w.if-depth-eq0.false)) now;
+        left = after_line items _ line _ _ _ split
+            (step_end line _ _ w.in-Commit.is (omega (arith, w.depth-is, w.if-depth-eq0.false))) now;
         few = omega (arith, few, w.depth-is);
       }
     ]

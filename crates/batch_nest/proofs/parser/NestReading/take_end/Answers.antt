@@ -4,7 +4,8 @@ use Rattle.batch_nest.specs.declared.item.NestItem.TheVariants.{Nest}
 use Rattle.batch_nest.specs.Nest.{end_line}
 use Rattle.batch_nest.specs.Reading.{HaveRead}
 use Rattle.batch_nest.specs.Script.{printed_line}
-use Rattle.batch_nest.proofs.OpenFacts.{open_end}
+use Rattle.batch_nest.proofs.LineFacts.{step_end}
+use Rattle.batch_nest.proofs.OpenFacts.{end_is, open_line}
 use Rattle.batch_nest.proofs.ReadingFacts.{read_nest_end, read_nest_line}
 use Rattle.batch_nest.proofs.parser.NestReading.take_end.Goals.{in-Commit, in-Abort}
 use Rattle.batch_nest.proofs.parser.NestReading.take_end.Goals as goal
@@ -35,5 +36,6 @@ returns c =
     record {
       ok = λ lines valid was. read_nest_line old.items.items begun next lines (end_line c.args.end) was valid
           (c.in_ok-with.ensures.lines ∙ ap (λ line. begun.lines.items ++ line ∷ []) ends)
-          (open_end begun.lines.items begun.depth next.depth c.args.end fewer);
+          (open_line begun.lines.items begun.depth next.depth (end_line c.args.end)
+          (step_end (end_line c.args.end) begun.depth next.depth (end_is c.args.end) fewer));
     }

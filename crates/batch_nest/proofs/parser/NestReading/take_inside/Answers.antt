@@ -1,6 +1,7 @@
-use Rattle.std.proofs.Common.{[], ◌∷◌, ◌++◌, OnOk, sym, subst, ◌∙◌}
+use Rattle.std.proofs.Common.{OnOk, sym, subst, ◌∙◌}
 use Rattle.batch_nest.specs.Reading.{TakesNestLine}
-use Rattle.batch_nest.proofs.OpenFacts.{IsOpenAt, open_begin, open_command}
+use Rattle.batch_nest.proofs.LineFacts.{Steps, step_begin, step_command}
+use Rattle.batch_nest.proofs.OpenFacts.{open_line}
 use Rattle.batch_nest.proofs.ReadingFacts.{read_nest_line}
 use Rattle.batch_nest.proofs.parser.NestReading.take_inside.Goals.{in-Begin+in-Some, in-Command}
 use Rattle.batch_nest.proofs.parser.NestReading.take_inside.Goals as goal
@@ -24,11 +25,13 @@ returns c =
     let begun = c.args.begun in
     let line = c.args.line in
     let next = c.in_ok-with.field-0 in
-    let front = begun.lines.items in
-    let stays_open : IsOpenAt front begun.depth → IsOpenAt (front ++ line ∷ []) next.depth = λ opened. elim c.match-line.branch [
-      | in-Begin+in-Some w ↦ open_begin front begun.depth next.depth line w.in-Begin.is
-          (c.in_ok-with.ensures.depth ∙ (w.deeper-is ∙ w.in-Some.ensures.1)) opened
-      | in-Command w ↦ subst (λ depth. IsOpenAt (front ++ line ∷ []) depth) (sym (c.in_ok-with.ensures.depth ∙ w.deeper-is))
-          (open_command front begun.depth line _ w.in-Command.is opened)
+    let step : Steps begun.depth next.depth line = elim c.match-line.branch [
+      | in-Begin+in-Some w ↦ step_begin line begun.depth next.depth w.in-Begin.is
+          (c.in_ok-with.ensures.depth ∙ (w.deeper-is ∙ w.in-Some.ensures.1))
+      | in-Command w ↦ subst (λ depth. Steps begun.depth depth line) (sym (c.in_ok-with.ensures.depth ∙ w.deeper-is))
+          (step_command line begun.depth _ w.in-Command.is)
     ] in
-    record { ok = λ lines valid was. read_nest_line old.items.items begun next lines line was valid c.in_ok-with.ensures.lines stays_open }
+    record {
+      ok = λ lines valid was. read_nest_line old.items.items begun next lines line was valid c.in_ok-with.ensures.lines
+          (open_line begun.lines.items begun.depth next.depth line step);
+    }
