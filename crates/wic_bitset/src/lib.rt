@@ -46,11 +46,16 @@ mod growth;
 mod iter;
 mod iter_scalars;
 pub mod laws;
+mod marked;
+mod number_set;
+mod plain;
 mod set;
 mod store;
-mod store_iter;
+mod summarized;
 #[cfg(test)]
 mod tests;
+mod walk;
+mod word;
 mod word_iter;
 
 pub use iter::Iter;
