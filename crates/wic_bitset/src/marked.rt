@@ -124,7 +124,8 @@ pub fn same_marked<T: ScalarBitSetStorage, S: NumberSet>(
     other_marks: &S,
 ) -> bool
     requires marks { Summarizes T.width words.now (S.members marks.now) (S.end marks.now) }
-    requires other_marks { Summarizes T.width other_words.now (S.members other_marks.now) (S.end other_marks.now) }
+    requires other_marks { Summarizes T.width other_words.now (S.members other_marks.now)
+        (S.end other_marks.now) }
     ensures { IsTrue result ↔ (words.now.members ≡ other_words.now.members) }
 {
     if !marks.is_same(other_marks) {
@@ -144,7 +145,8 @@ pub fn same_marked<T: ScalarBitSetStorage, S: NumberSet>(
 pub fn mark_below<T: ScalarBitSetStorage, S: NumberSet>(words: &Store<T>, marks: &mut S, end: usize)
     requires within { end ≤ S.end marks.old }
     requires numbers { (i : ℕ) → fin_set.contains words.now.members i ≡ true → i ≤ 4294967295 }
-    ensures marks { MarksBelow T.width words.now.members end (S.members marks.old) (S.members marks.new) }
+    ensures marks { MarksBelow T.width words.now.members end (S.members marks.old)
+        (S.members marks.new) }
     ensures end { S.end marks.new ≡ S.end marks.old }
     ensures room { S.room marks.new ≡ S.room marks.old }
 {

@@ -155,8 +155,8 @@ impl<T: ScalarBitSetStorage> CompoundBitSet<T> {
         Ok(self.insert_below(i))
     }
 
-    /// Takes `i` out, and returns whether it was there: `i` may be any number. It reads and writes a word per level at most, and if
-    /// `i` is the maximum, it reads one more word per level for the next one.
+    /// Takes `i` out, and returns whether it was there: `i` may be any number. It takes a few steps, and a few more per level of the
+    /// summary if a word becomes empty, or if `i` is the maximum and the next one is searched for.
     pub fn remove(&mut self, i: usize) -> bool
         ensures present { result ≡ fin_set.contains self.old.members i }
         ensures members { self.new.members ≡ fin_set.remove self.old.members i }
@@ -336,7 +336,8 @@ impl<T: ScalarBitSetStorage> CompoundBitSet<T> {
 
     // A walk over the numbers of the summary words that have a member.
     fn blocks(&self) -> Walk<'_, T, TopLevels<T>>
-        ensures blocks { result ≡ rising (filled_words T.width (filled_words T.width self.now.members)) }
+        ensures blocks { result
+            ≡ rising (filled_words T.width (filled_words T.width self.now.members)) }
         ensures few { length result ≤ div_ceil self.now.words T.width }
         ensures within { All (λ b. b < div_ceil self.now.words T.width) result }
     {

@@ -24,7 +24,7 @@ pub type TopLevels<T> = Summarized<T, Store<T>>;
 /// The levels of a summary from the second on.
 pub type UpperLevels<T> = Summarized<T, TopLevels<T>>;
 
-/// The summary of a set. The numbers of the words of each level that have a member are the next level, and the last is plain.
+/// The summary of a set, in four levels. Each has the numbers of the words of the one below that have a member; the last is plain.
 pub type Levels<T> = Summarized<T, UpperLevels<T>>;
 
 /// A set in words with its marks.

@@ -15,8 +15,8 @@ returns-clause-marks g c =
     let at = c.width.ensures.value in
     let within = div_below c.args.i w _ g.T.ScalarBitSetStorage.width_within.positive c.requires.within in
     elim c.if-is_word_empty.branch [
-      | then-is_word_empty b ↦ Summarizes-insert w c.args.i _ _ (set.members old) _ (set.end old) _ c.requires.marks c.insert-2.ensures.count
-          (ap set.end b.marks-is ∙ b.insert.ensures.end) within c.requires.number c.insert-2.ensures.members
+      | then-is_word_empty b ↦ Summarizes-insert w c.args.i _ _ (set.members old) _ (set.end old) _ c.requires.marks
+          c.insert-2.ensures.count (ap set.end b.marks-is ∙ b.insert.ensures.end) within c.requires.number c.insert-2.ensures.members
           (ap set.members b.marks-is ∙ b.insert.ensures.members ∙ ap (λ n. insert (set.members old) (c.args.i / n)) at)
       | else-is_word_empty b ↦ Summarizes-insert_filled w c.args.i _ _ (set.members old) _ (set.end old) _ c.requires.marks
           c.insert-2.ensures.count (ap set.end b.marks-is) within c.requires.number c.insert-2.ensures.members (ap set.members b.marks-is)
