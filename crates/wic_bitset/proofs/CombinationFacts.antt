@@ -13,6 +13,7 @@ use Rattle.std.proofs.lemmas.Bool.{iff_false}
 use Rattle.std.proofs.lemmas.Bool.{false_from_ne_true}
 use Rattle.std.proofs.lemmas.List.{map-set}
 use Rattle.std.proofs.lemmas.Nat.{div_below, div-mul-add, mod-mul-add, mod_below}
+use Rattle.std.proofs.Math.Nat.{div-le_self}
 use Rattle.wic_scalar.specs.Digits.{is_one}
 use Rattle.wic_scalar.specs.Scalar.{set_of}
 use Rattle.wic_scalar.proofs.MemberFacts.{contains_below, none_from_empty, same_from_sets}
@@ -251,6 +252,11 @@ module _ (w : ℕ) (how : Combination) (end : ℕ) (s t r : FinSet nat_cmp) (don
       (λ above. inl (sym (done.outside i above) ∙ has))
       (cases_lt (i / w) end)
 
+  -- so no member is larger than theirs
+  pub combines_numbers : ((i : ℕ) → contains s i ≡ true → i ≤ 4294967295) → ((i : ℕ) → contains t i ≡ true → i ≤ 4294967295)
+      → (i : ℕ) → contains r i ≡ true → i ≤ 4294967295
+  combines_numbers first second i has = ⊎_elim (λ one. first i one) (λ other. second i other) (combines_of i has)
+
   -- a word that was not done is as empty as before
   word_kept : (k : ℕ) → end ≤ k → IsWordEmpty w r k ↔ IsWordEmpty w s k
   word_kept k above = (
@@ -258,27 +264,36 @@ module _ (w : ℕ) (how : Combination) (end : ℕ) (s t r : FinSet nat_cmp) (don
     λ none i at. done.outside i (omega arith) ∙ none i at,
   )
 
--- the summary is right if the words that were done are marked
-pub Summarizes-combined : (w : ℕ) (how : Combination) (end : ℕ) (words summary words' summary' : Words) (t : FinSet nat_cmp)
-    → Summarizes w words summary → ((i : ℕ) → contains t i ≡ true → i ≤ 4294967295) → end ≤ words.count
-    → CombinesBelow w how end words.members t words'.members → words'.count ≡ words.count
-    → MarksBelow w words'.members end summary.members summary'.members → summary'.count ≡ summary.count
-    → Summarizes w words' summary'
-Summarizes-combined w how end words summary words' summary' t old small within done count marks size = record {
+-- the marks are right if the words that were done are marked
+pub Summarizes-combined : (w : ℕ) (how : Combination) (done_end : ℕ) (words words' : Words) (marks marks' t : FinSet nat_cmp) (end end' : ℕ)
+    → Summarizes w words marks end → ((i : ℕ) → contains t i ≡ true → i ≤ 4294967295) → done_end ≤ words.count
+    → CombinesBelow w how done_end words.members t words'.members → words'.count ≡ words.count
+    → MarksBelow w words'.members done_end marks marks' → end' ≡ end → Summarizes w words' marks' end'
+Summarizes-combined w how done_end words words' marks marks' t end end' old small within done count marked same_end = record {
   digits = λ k. ⊎_elim
-      (λ below. marks.inside k below)
+      (λ below. marked.inside k below)
       (λ above.
-      let same = marks.outside k above in
-      let kept = word_kept w how end words.members t words'.members done k above in
+      let same = marked.outside k above in
+      let kept = word_kept w how done_end words.members t words'.members done k above in
       (λ no. kept.1 ((old.digits k).0 (sym same ∙ no)), λ none. same ∙ (old.digits k).1 (kept.0 none)))
-      (cases_lt k end);
-  size = size ∙ old.size ∙ ap (λ n. div_ceil n w) (sym count);
+      (cases_lt k done_end);
+  reach = omega (arith, old.reach);
   ends = subst (EndsBefore w words'.members) (sym count)
-      (combines_ends w how end words.members t words'.members done words.count within old.ends);
-  numbers = λ i has. ⊎_elim (λ one. old.numbers i one) (λ other. small i other)
-      (combines_of w how end words.members t words'.members done i has);
+      (combines_ends w how done_end words.members t words'.members done words.count within old.ends);
+  numbers = combines_numbers w how done_end words.members t words'.members done old.numbers small;
   few = omega (arith, old.few);
 }
+
+-- a word that has a member has a number that a set can hold
+pub filled_small : (w : ℕ) (s : FinSet nat_cmp) (k : ℕ) → 0 < w → ((i : ℕ) → contains s i ≡ true → i ≤ 4294967295)
+    → (IsWordEmpty w s k → ⊥) → k ≤ 4294967295
+filled_small w s k some small filled = ⊎_elim
+    (λ above. absurd (filled (λ i at. false_from_ne_true (contains s i) (λ has. absurd (
+    let le = small i has in
+    let down = div-le_self i w in
+    omega arith)))))
+    (λ le. le)
+    (cases_lt 4294967295 k)
 
 -- ---- what the calls return
 

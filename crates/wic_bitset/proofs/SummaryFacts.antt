@@ -18,7 +18,7 @@ use Rattle.wic_bitset.proofs.ByWordFacts.{filled_words-empty}
 use Rattle.wic_bitset.proofs.DivisionFacts.{below_div_ceil, div_ceil-mono, div_ceil-reaches}
 use Rattle.wic_bitset.proofs.GreatestFacts.{greatest_of_last_word}
 use Rattle.wic_base.proofs.SetFacts.{empty_of_none, none_in_empty, there_after_insert, same_after_insert, gone_after_remove}
-use Rattle.wic_base.proofs.SetFacts.{same_after_remove, same_by_absence, was_before_remove}
+use Rattle.wic_base.proofs.SetFacts.{insert_present, remove_absent, same_after_remove, same_by_absence, was_before_remove}
 
 -- other words are as empty as before
 other_word : (w i k : ℕ) (s t : FinSet nat_cmp) → ((q : ℕ) → q ≢ i → contains t q ≡ contains s q) → k ≢ i / w
@@ -28,22 +28,22 @@ other_word w i k s t same apart = (
   λ none q at. same q (λ e. apart (sym at ∙ ap (λ n. n / w) e)) ∙ none q at,
 )
 
-module _ (w i : ℕ) (words summary words' summary' : Words) (old : Summarizes w words summary) (count : words'.count ≡ words.count)
-    (size : summary'.count ≡ summary.count) where
+module _ (w i : ℕ) (words words' : Words) (marks marks' : FinSet nat_cmp) (end end' : ℕ) (old : Summarizes w words marks end)
+    (count : words'.count ≡ words.count) (same_end : end' ≡ end) where
   -- i alone and its word alone are in or out otherwise than before, and its word is marked as it should be
   changed : ((q : ℕ) → q ≢ i → contains words'.members q ≡ contains words.members q)
-      → ((k : ℕ) → k ≢ i / w → contains summary'.members k ≡ contains summary.members k)
+      → ((k : ℕ) → k ≢ i / w → contains marks' k ≡ contains marks k)
       → (contains words'.members i ≡ true → (i / w < words.count) × (i ≤ 4294967295))
-      → (contains summary'.members (i / w) ≡ false) ↔ IsWordEmpty w words'.members (i / w) → Summarizes w words' summary'
-  changed others marks here word = record {
+      → (contains marks' (i / w) ≡ false) ↔ IsWordEmpty w words'.members (i / w) → Summarizes w words' marks' end'
+  changed others other_marks here word = record {
     digits = λ k. ⊎_elim
-        (λ at. subst (λ k. (contains summary'.members k ≡ false) ↔ IsWordEmpty w words'.members k) (sym at) word)
+        (λ at. subst (λ k. (contains marks' k ≡ false) ↔ IsWordEmpty w words'.members k) (sym at) word)
         (λ apart.
-        let same = marks k apart in
+        let same = other_marks k apart in
         let kept = other_word w i k words.members words'.members others apart in
         (λ none. kept.1 ((old.digits k).0 (sym same ∙ none)), λ none. same ∙ (old.digits k).1 (kept.0 none)))
         (cases_eq k (i / w));
-    size = size ∙ old.size ∙ ap (λ n. div_ceil n w) (sym count);
+    reach = omega (arith, old.reach);
     ends = λ q has. rw count (⊎_elim
         (λ at. rw at ((here (sym (ap (contains words'.members) at) ∙ has)).0))
         (λ apart. old.ends q (sym (others q apart) ∙ has))
@@ -57,27 +57,37 @@ module _ (w i : ℕ) (words summary words' summary' : Words) (old : Summarizes w
 
   -- i is put in, and its word
   pub Summarizes-insert : i / w < words.count → i ≤ 4294967295 → words'.members ≡ insert words.members i
-      → summary'.members ≡ insert summary.members (i / w) → Summarizes w words' summary'
+      → marks' ≡ insert marks (i / w) → Summarizes w words' marks' end'
   Summarizes-insert within small put marked = changed
       (λ q apart. ap (λ s. contains s q) put ∙ same_after_insert words.members i q apart)
-      (λ k apart. ap (λ s. contains s k) marked ∙ same_after_insert summary.members (i / w) k apart)
+      (λ k apart. ap (λ s. contains s k) marked ∙ same_after_insert marks (i / w) k apart)
       (λ _. (within, small)) (
-        λ none. absurd (let yes = ap (λ s. contains s (i / w)) marked ∙ there_after_insert summary.members (i / w) in cc),
+        λ none. absurd (let yes = ap (λ s. contains s (i / w)) marked ∙ there_after_insert marks (i / w) in cc),
         λ none. absurd (let no = none i refl in let yes = ap (λ s. contains s i) put ∙ there_after_insert words.members i in cc),
       )
 
+  -- i is put in, and its word has another member
+  pub Summarizes-insert_filled : i / w < words.count → i ≤ 4294967295 → words'.members ≡ insert words.members i → marks' ≡ marks
+      → (IsWordEmpty w words.members (i / w) → ⊥) → Summarizes w words' marks' end'
+  Summarizes-insert_filled within small put same filled =
+      let marked : contains marks (i / w) ≡ true = ⊎_elim
+      (λ yes. yes)
+      (λ no. absurd (filled ((old.digits (i / w)).0 no)))
+      (cases_Bool (contains marks (i / w))) in
+      Summarizes-insert within small put (same ∙ sym (insert_present marks (i / w) marked))
+
   -- i is taken out, and its word, since it is empty now
-  pub Summarizes-emptied : words'.members ≡ remove words.members i → summary'.members ≡ remove summary.members (i / w)
-      → IsWordEmpty w words'.members (i / w) → Summarizes w words' summary'
+  pub Summarizes-emptied : words'.members ≡ remove words.members i → marks' ≡ remove marks (i / w)
+      → IsWordEmpty w words'.members (i / w) → Summarizes w words' marks' end'
   Summarizes-emptied taken marked none = changed
       (λ q apart. ap (λ s. contains s q) taken ∙ same_after_remove words.members i q apart)
-      (λ k apart. ap (λ s. contains s k) marked ∙ same_after_remove summary.members (i / w) k apart)
+      (λ k apart. ap (λ s. contains s k) marked ∙ same_after_remove marks (i / w) k apart)
       (λ has. absurd (let gone = ap (λ s. contains s i) taken ∙ gone_after_remove words.members i in cc))
-      (λ _. none, λ _. ap (λ s. contains s (i / w)) marked ∙ gone_after_remove summary.members (i / w))
+      (λ _. none, λ _. ap (λ s. contains s (i / w)) marked ∙ gone_after_remove marks (i / w))
 
   -- i is taken out, and its word has another member
-  pub Summarizes-kept : words'.members ≡ remove words.members i → summary'.members ≡ summary.members
-      → (IsWordEmpty w words'.members (i / w) → ⊥) → Summarizes w words' summary'
+  pub Summarizes-kept : words'.members ≡ remove words.members i → marks' ≡ marks
+      → (IsWordEmpty w words'.members (i / w) → ⊥) → Summarizes w words' marks' end'
   Summarizes-kept taken marked other = changed
       (λ q apart. ap (λ s. contains s q) taken ∙ same_after_remove words.members i q apart)
       (λ k apart. ap (λ s. contains s k) marked)
@@ -90,26 +100,26 @@ module _ (w i : ℕ) (words summary words' summary' : Words) (old : Summarizes w
       )
 
 -- no members, and no words that have one
-pub Summarizes-none : (w : ℕ) (words summary : Words) → words.count ≤ most_words → words.members ≡ empty → summary.members ≡ empty
-    → summary.count ≡ div_ceil words.count w → Summarizes w words summary
-Summarizes-none w words summary few none unmarked size = record {
-  digits = λ k. (λ _ i _. none_in_empty words.members none i, λ _. none_in_empty summary.members unmarked k);
-  size = size;
+pub Summarizes-none : (w : ℕ) (words : Words) (marks : FinSet nat_cmp) (end : ℕ) → words.count ≤ most_words → words.members ≡ empty
+    → marks ≡ empty → words.count ≤ end → Summarizes w words marks end
+Summarizes-none w words marks end few none unmarked reach = record {
+  digits = λ k. (λ _ i _. none_in_empty words.members none i, λ _. none_in_empty marks unmarked k);
+  reach = reach;
   ends = λ i has. absurd (let absent = none_in_empty words.members none i in cc);
   numbers = λ i has. absurd (let absent = none_in_empty words.members none i in cc);
   few = few;
 }
 
--- more words, and the summary that they need
-pub Summarizes-grown : (w : ℕ) (words summary words' summary' : Words) → Summarizes w words summary → words'.members ≡ words.members
-    → summary'.members ≡ summary.members → words.count ≤ words'.count → words'.count ≤ most_words
-    → summary'.count ≡ div_ceil words'.count w → Summarizes w words' summary'
-Summarizes-grown w words summary words' summary' old same marked grown few size = record {
+-- more words, and a place for the mark of each
+pub Summarizes-grown : (w : ℕ) (words words' : Words) (marks marks' : FinSet nat_cmp) (end end' : ℕ) → Summarizes w words marks end
+    → words'.members ≡ words.members → marks' ≡ marks → words.count ≤ words'.count → words'.count ≤ most_words → words'.count ≤ end'
+    → Summarizes w words' marks' end'
+Summarizes-grown w words words' marks marks' end end' old same marked grown few reach = record {
   digits = λ k. (
     λ none i at. ap (λ s. contains s i) same ∙ (old.digits k).0 (sym (ap (λ s. contains s k) marked) ∙ none) i at,
     λ none. ap (λ s. contains s k) marked ∙ (old.digits k).1 (λ i at. sym (ap (λ s. contains s i) same) ∙ none i at),
   );
-  size = size;
+  reach = reach;
   ends = λ i has. let h = old.ends i (sym (ap (λ s. contains s i) same) ∙ has) in omega arith;
   numbers = λ i has. old.numbers i (sym (ap (λ s. contains s i) same) ∙ has);
   few = few;
@@ -117,13 +127,13 @@ Summarizes-grown w words summary words' summary' old same marked grown few size 
 
 -- ---- what the summary tells of the words
 
-module _ (w : ℕ) (words summary : Words) (sum : Summarizes w words summary) where
+module _ (w : ℕ) (words : Words) (marks : FinSet nat_cmp) (end : ℕ) (sum : Summarizes w words marks end) where
   -- a word that the summary has is no empty word
-  pub no_empty_word : (k : ℕ) → contains summary.members k ≡ true → IsWordEmpty w words.members k → ⊥
-  no_empty_word k has none = let no : contains summary.members k ≡ false = (sum.digits k).1 none in absurd (cc)
+  pub no_empty_word : (k : ℕ) → contains marks k ≡ true → IsWordEmpty w words.members k → ⊥
+  no_empty_word k has none = let no : contains marks k ≡ false = (sum.digits k).1 none in absurd (cc)
 
   -- if the words from n on are empty, the summary has none of them
-  pub below_end : (n : ℕ) → EndsBefore w words.members n → (k : ℕ) → contains summary.members k ≡ true → k < n
+  pub below_end : (n : ℕ) → EndsBefore w words.members n → (k : ℕ) → contains marks k ≡ true → k < n
   below_end n ends k has = ⊎_elim
       (λ inside. inside)
       (λ above. absurd (no_empty_word k has (λ i at. false_from_ne_true (contains words.members i)
@@ -131,85 +141,61 @@ module _ (w : ℕ) (words summary : Words) (sum : Summarizes w words summary) wh
       (cases_lt k n)
 
   -- a word that the summary has is below the count
-  pub summary_within : (k : ℕ) → contains summary.members k ≡ true → k < words.count
+  pub summary_within : (k : ℕ) → contains marks k ≡ true → k < words.count
   summary_within = below_end words.count sum.ends
 
-  -- the summary ends where the words end
-  pub summary_ends : 0 < w → (n : ℕ) → EndsBefore w words.members n → EndsBefore w summary.members (div_ceil n w)
-  summary_ends some n ends k has = below_div_ceil w k n some (below_end n ends k has)
-
-  -- the summary's words up to that of the last word in use are there, and have all words that have a member
-  pub in_use_blocks : 0 < w → (v : Compound) → record { members = words.members; words = words.count } ≡ v → (n blocks width : ℕ)
-      → n ≤ v.words → EndsBefore w v.members n → width ≡ w → blocks ≡ div_ceil n width
-      → (blocks ≤ summary.count) × EndsBefore w summary.members blocks
-  in_use_blocks some v view n blocks width within ends same is =
-      let end : blocks ≡ div_ceil n w = is ∙ ap (div_ceil n) same in
-      let few : n ≤ words.count = subst (λ u. n ≤ u.words) (sym view) within in (
-        omega (arith, end, sum.size, div_ceil-mono w n words.count some few),
-        subst (EndsBefore w summary.members) (sym end) (summary_ends some n (subst (λ u. EndsBefore w u.members n) (sym view) ends)),
-      )
-
   -- the word of a member is in the summary
-  pub filled : (i : ℕ) → contains words.members i ≡ true → contains summary.members (i / w) ≡ true
+  pub filled : (i : ℕ) → contains words.members i ≡ true → contains marks (i / w) ≡ true
   filled i there = ⊎_elim
       (λ yes. yes)
       (λ no. absurd (let none = (sum.digits (i / w)).0 no i refl in cc))
-      (cases_Bool (contains summary.members (i / w)))
+      (cases_Bool (contains marks (i / w)))
 
   -- the greatest member stands in the greatest word that the summary has
-  pub max_through_summary : 0 < w → (k : ℕ) (r : Option ℕ) → IsGreatest summary.members k → IsMaxOfWord w words.members k r
+  pub max_through_summary : 0 < w → (k : ℕ) (r : Option ℕ) → IsGreatest marks k → IsMaxOfWord w words.members k r
       → IsMax words.members r
   max_through_summary some k None last none = absurd (no_empty_word k last.member none)
   max_through_summary some k (Some x) last found =
       greatest_of_last_word w words.members k x some (λ i there. ⊎_elim
       (λ inside. inside)
       (λ above. absurd (
-      let yes : contains summary.members (i / w) ≡ true = filled i there in
+      let yes : contains marks (i / w) ≡ true = filled i there in
       let le = last.greatest (i / w) yes in
       omega arith))
       (cases_lt (i / w) (k + 1))) found
 
   -- there is no member if the summary is empty
-  pub none_through_summary : summary.members ≡ empty → words.members ≡ empty
+  pub none_through_summary : marks ≡ empty → words.members ≡ empty
   none_through_summary none =
-      empty_of_none words.members (λ i. (sum.digits (i / w)).0 (none_in_empty summary.members none (i / w)) i refl)
+      empty_of_none words.members (λ i. (sum.digits (i / w)).0 (none_in_empty marks none (i / w)) i refl)
 
 -- ---- the summary is the set of the words that have a member
 
 -- the summary has just the words that have a member
-pub summary_is_filled_words : (w : ℕ) (words summary : Words) → Summarizes w words summary
-    → summary.members ≡ filled_words w words.members
-summary_is_filled_words w words summary sum = same_by_absence _ _
+pub summary_is_filled_words : (w : ℕ) (words : Words) (marks : FinSet nat_cmp) (end : ℕ) → Summarizes w words marks end
+    → marks ≡ filled_words w words.members
+summary_is_filled_words w words marks end sum = same_by_absence _ _
     (λ k none. (filled_words-empty w words.members k).1 ((sum.digits k).0 none))
     (λ k none. (sum.digits k).1 ((filled_words-empty w words.members k).0 none))
 
 -- a word that has a member is there
-filled_within : (w : ℕ) (words summary : Words) → Summarizes w words summary → (k : ℕ)
+pub filled_within : (w : ℕ) (words : Words) (marks : FinSet nat_cmp) (end : ℕ) → Summarizes w words marks end → (k : ℕ)
     → contains (filled_words w words.members) k ≡ true → k < words.count
-filled_within w words summary sum k has =
-    summary_within w words summary sum k (ap (λ s. contains s k) (summary_is_filled_words w words summary sum) ∙ has)
-
--- and stands in the summary's words
-pub filled_below : (w : ℕ) (words summary : Words) → 0 < w → Summarizes w words summary → (k : ℕ)
-    → contains (filled_words w words.members) k ≡ true → k < summary.count * w
-filled_below w words summary some sum k has =
-    let below = filled_within w words summary sum k has in
-    let reaches = div_ceil-reaches w words.count some in
-    let size = ap (λ n. n * w) sum.size in
-    omega arith
+filled_within w words marks end sum k has =
+    summary_within w words marks end sum k (ap (λ s. contains s k) (summary_is_filled_words w words marks end sum) ∙ has)
 
 -- each word that has a member is there
-pub All-filled : (w : ℕ) (words summary : Words) → Summarizes w words summary
+pub All-filled : (w : ℕ) (words : Words) (marks : FinSet nat_cmp) (end : ℕ) → Summarizes w words marks end
     → All (λ k. k < words.count) (rising (filled_words w words.members))
-All-filled w words summary sum = All-rising (λ k. k < words.count) (filled_words w words.members) (filled_within w words summary sum)
+All-filled w words marks end sum = All-rising (λ k. k < words.count) (filled_words w words.members) (filled_within w words marks end sum)
 
 -- what stands in word s of the summary
-pub block_words-are : (w : ℕ) (words summary : Words) → Summarizes w words summary → (s : ℕ)
-    → word_members w summary.members s ≡ block_words w words.members s
-block_words-are w words summary sum s = ap (λ t. word_members w t s) (summary_is_filled_words w words summary sum)
+pub block_words-are : (w : ℕ) (words : Words) (marks : FinSet nat_cmp) (end : ℕ) → Summarizes w words marks end → (s : ℕ)
+    → word_members w marks s ≡ block_words w words.members s
+block_words-are w words marks end sum s = ap (λ t. word_members w t s) (summary_is_filled_words w words marks end sum)
 
 -- the words of a block have their place in the set
-pub All-block_words : (w : ℕ) (words summary : Words) → Summarizes w words summary → (s : ℕ)
+pub All-block_words : (w : ℕ) (words : Words) (marks : FinSet nat_cmp) (end : ℕ) → Summarizes w words marks end → (s : ℕ)
     → All (λ k. k < words.count) (block_words w words.members s)
-All-block_words w words summary sum s = All-between (λ k. k < words.count) (filled_words w words.members) (s * w) (s * w + w)
-    (filled_within w words summary sum)
+All-block_words w words marks end sum s = All-between (λ k. k < words.count) (filled_words w words.members) (s * w) (s * w + w)
+    (filled_within w words marks end sum)

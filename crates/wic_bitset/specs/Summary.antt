@@ -1,16 +1,15 @@
 -- The summary of a set in words: the numbers of the words that have a member.
 use Rattle.std.specs.Prelude.{◌≡◌, ℕ, ◌/◌, ◌≤◌, List, map, false, true, ◌↔◌}
 use Rattle.std.specs.List.{flat_map}
-use Rattle.std.specs.Int.{div_ceil}
 use Rattle.std.specs.Ordering.{nat_cmp}
 use Rattle.std.specs.FinSet.{FinSet, contains, items, from_list}
 use Rattle.wic_bitset.specs.Rising.{word_members}
 use Rattle.wic_bitset.specs.Words.{Words, most_words, EndsBefore, IsWordEmpty}
 
--- the summary has just the words that have a member, in as many words as it needs
-pub record Summarizes (w : ℕ) (words summary : Words) : Type 0 where
-  pub digits : (k : ℕ) → (contains summary.members k ≡ false) ↔ IsWordEmpty w words.members k
-  pub size : summary.count ≡ div_ceil words.count w
+-- the marks are just the numbers of the words that have a member, and there is a place for that of each word
+pub record Summarizes (w : ℕ) (words : Words) (marks : FinSet nat_cmp) (end : ℕ) : Type 0 where
+  pub digits : (k : ℕ) → (contains marks k ≡ false) ↔ IsWordEmpty w words.members k
+  pub reach : words.count ≤ end
   -- and of the words themselves: each member has one, none is above 4294967295, and there are not too many
   pub ends : EndsBefore w words.members words.count
   pub numbers : (i : ℕ) → contains words.members i ≡ true → i ≤ 4294967295
@@ -19,10 +18,6 @@ pub record Summarizes (w : ℕ) (words summary : Words) : Type 0 where
 -- the words that have a member: the different values of a member divided by the width, rounded down
 abbrev pub filled_words : ℕ → FinSet nat_cmp → FinSet nat_cmp
 filled_words w s = from_list (map (λ i. i / w) (items s))
-
--- s and t have the same members in each word that has a member of s
-abbrev pub SameInFilledWords : ℕ → FinSet nat_cmp → FinSet nat_cmp → Type 0
-SameInFilledWords w s t = (i : ℕ) → contains (filled_words w s) (i / w) ≡ true → contains s i ≡ contains t i
 
 -- the words that have a member, ascending, of those whose digits stand in word k of the summary
 abbrev pub block_words : ℕ → FinSet nat_cmp → ℕ → List ℕ

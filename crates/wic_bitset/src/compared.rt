@@ -11,8 +11,8 @@ use std::fmt;
 use std::hash::{Hash, Hasher};
 use wic_scalar::ScalarBitSetStorage;
 
-/// Two sets are equal exactly if they have the same members, whatever room they have. It compares the summary words up to that of
-/// the greatest member, and then each word that has a member. The original compares all words, also those beyond.
+/// Two sets are equal exactly if they have the same members, whatever room they have. It compares the levels of the summary
+/// first, from the last on, and then each word that has a member. The original compares all words, also those beyond.
 impl<T: ScalarBitSetStorage> PartialEq for CompoundBitSet<T> {
     ghost eq = { λ s t. pointwise nat_eq (rising s.members) (rising t.members) };
 

@@ -1,13 +1,9 @@
 //! A walk over the members of a compound set.
-ghost use Rattle.std.specs.Prelude.{◌≡◌, ◌<◌};
-ghost use Rattle.std.specs.Prelude.{All};
-ghost use Rattle.std.specs.List.{flat_map};
+ghost use Rattle.std.specs.Prelude.{◌≡◌};
 ghost use Rattle.std.specs.Iterator.{YieldsFirst, item_count};
-ghost use Rattle.wic_bitset.specs.Rising.{word_members};
 
-use crate::store::Store;
-use crate::store_iter::StoreIter;
-use crate::word_iter::WordIter;
+use crate::summarized::Levels;
+use crate::walk::Walk;
 use std::iter::FusedIterator;
 use std::marker::Model;
 use wic_scalar::ScalarBitSetStorage;
@@ -16,36 +12,23 @@ use wic_scalar::ScalarBitSetStorage;
 /// moves on.
 #[derive(Drop)]
 pub struct Iter<'a, T: ScalarBitSetStorage> {
-    words: &'a Store<T>,
-    // The words that have a member and are not yet read.
-    filled: StoreIter<'a, T>,
-    // What is left of the word that was read last.
-    word: WordIter<T>,
+    walk: Walk<'a, T, Levels<T>>,
 }
 
 impl<'a, T: ScalarBitSetStorage> Model for Iter<'a, T> {
-    ghost use Rattle.std.specs.Prelude.{ℕ, List, ◌<◌, ◌++◌, All};
-    ghost use Rattle.std.specs.List.{flat_map};
-    ghost use Rattle.wic_bitset.specs.Rising.{word_members};
+    ghost use Rattle.std.specs.Prelude.{ℕ, List};
 
     ghost Value = { List ℕ };
 
-    ghost view = { λ it. it.word ++ flat_map (word_members T.width it.words.now.members) it.filled };
-
-    ghost invariant = { λ it. All (λ k. k < it.words.now.count) it.filled };
+    ghost view = { λ it. it.walk };
 }
 
 impl<'a, T: ScalarBitSetStorage> Iter<'a, T> {
-    // Over the members in the words that `filled` gives.
-    pub(crate) fn new(words: &'a Store<T>, filled: StoreIter<'a, T>) -> Iter<'a, T>
-        requires { All (λ k. k < words.now.count) filled }
-        ensures { result ≡ flat_map (word_members T.width words.now.members) filled.entry }
+    #[inline]
+    pub(crate) fn new(walk: Walk<'a, T, Levels<T>>) -> Iter<'a, T>
+        ensures { result ≡ walk.entry }
     {
-        Iter {
-            words,
-            filled,
-            word: WordIter::none(),
-        }
+        Iter { walk }
     }
 }
 
@@ -56,16 +39,9 @@ impl<'a, T: ScalarBitSetStorage> Iterator for Iter<'a, T> {
 
     ghost remaining = { item_count (λ rest. rest) };
 
+    #[inline]
     fn next(&mut self) -> Option<usize> {
-        loop {
-            if let Some(i) = self.word.next() {
-                return Some(i);
-            }
-            match self.filled.next() {
-                Some(k) => self.word = self.words.iter_word(k),
-                None => return None,
-            }
-        }
+        self.walk.next()
     }
 }
 

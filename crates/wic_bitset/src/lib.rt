@@ -1,8 +1,9 @@
 //! Sets of numbers up to 4294967295, in words of a storage that the caller chooses: large, sparse or dense, and kept if an
 //! allocation fails.
 //!
-//! A [`CompoundBitSet`] has one bit per number. A second set of the same kind, its summary, has the numbers of the words that have a
-//! member, so that a walk and the search for the next greatest member skip 64 empty words at a time (for `u64`). A contract sees
+//! A [`CompoundBitSet`] has one bit per number. Its summary has one bit per word, which says whether the word has a member. A second
+//! level has one bit per word of the summary, and so on, four levels in all. So a walk and the search for the next greatest member
+//! pass over empty words unread, however many there are. A contract sees
 //! the members, as a finite set, and the number of words; the capacity is the words times the width. It is a port of the compound
 //! half of `cranelift_bitset`; `members`, `Hash` and the calls on two sets are added.
 //!
@@ -22,20 +23,24 @@
 //!
 //! # What it doesn't protect against
 //!
-//! A set grows to its greatest number: one of `u64` with the one member 4294967295 takes 512 MB for its words and 8 MB for its
-//! summary. Check numbers from untrusted callers before you insert them. `clear` and `remove` give no memory back.
+//! A set grows to its greatest number: one of `u64` with the one member 4294967295 takes 512 MiB for its words, 8 MiB for the first
+//! level of its summary, and 130 KiB for the levels above. Check numbers from untrusted callers before you insert them. `clear` and `remove` give no memory back.
 //!
 //! # Costs
 //!
 //! | call | time |
 //! |---|---|
 //! | `contains`, `max`, `is_empty`, `capacity` | constant |
-//! | `insert` | constant, but for growth, which copies no more words in all than there are in the end |
-//! | `remove`, `pop` | constant; if the maximum goes, the summary words down to that of the next one |
-//! | `iter`, `len`, `hash`, `clear`, `==` | the summary words up to that of the maximum, and each word that has a member |
-//! | `members` | all summary words, and each word that has a member, once: this is a clause |
+//! | `insert` | constant, or a few steps per level into an empty word; growths copy no more words in all than there are in the end |
+//! | `remove`, `pop` | constant, and a few steps per level if a word becomes empty or the maximum goes |
+//! | `iter`, `len`, `hash`, `clear`, `==` | each word that has a member, and a few steps per level for it |
+//! | `members` | each summary word and each word that has a member, at most once: this is a clause |
 //! | `union_with`, `intersect_with`, `subtract`, `is_subset`, `is_disjoint` | the words up to that of a maximum |
 //! | `iter_scalars`, `try_clone` | the words |
+//!
+//! No clause says how many words of the summary a call reads, but for `members`. The last level is read word by word. With
+//! 4294967295 as a member it has 1 word for `u128`, 4 for `u64` and `usize`, 128 for `u32`, 4096 for `u16` and 131072 for `u8`, or up
+//! to twice as many by the rule of growth.
 #![tactic(auto)]
 
 #[cfg(test)]
@@ -46,11 +51,16 @@ mod growth;
 mod iter;
 mod iter_scalars;
 pub mod laws;
+mod marked;
+mod number_set;
+mod plain;
 mod set;
 mod store;
-mod store_iter;
+mod summarized;
 #[cfg(test)]
 mod tests;
+mod walk;
+mod word;
 mod word_iter;
 
 pub use iter::Iter;

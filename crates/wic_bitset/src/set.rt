@@ -20,8 +20,11 @@ mod pairs;
 use crate::growth::grown_count;
 use crate::iter::Iter;
 use crate::iter_scalars::IterScalars;
+use crate::marked::{clear_marked, greatest_marked, insert_into, remove_from};
+use crate::number_set::NumberSet;
 use crate::store::Store;
-use crate::store_iter::StoreIter;
+use crate::summarized::{Levels, TopLevels, UpperLevels};
+use crate::walk::Walk;
 use std::alloc::Global;
 use std::marker::Model;
 use std::sync::ledger::Ledger;
@@ -37,12 +40,13 @@ use wic_vec::TryVec;
 pub struct CompoundBitSet<T: ScalarBitSetStorage = usize> {
     words: Store<T>,
     // The numbers of the words that have a member.
-    summary: Store<T>,
+    summary: Levels<T>,
     // The greatest member.
     max: Option<usize>,
 }
 
 impl<T: ScalarBitSetStorage> Model for CompoundBitSet<T> {
+    ghost use Rattle.std.specs.Prelude.{◌*◌};
     ghost use Rattle.wic_bitset.specs.Compound.{Compound, compound_code};
     ghost use Rattle.wic_bitset.specs.Greatest.{IsMax};
     ghost use Rattle.wic_bitset.specs.Summary.{Summarizes};
@@ -53,7 +57,8 @@ impl<T: ScalarBitSetStorage> Model for CompoundBitSet<T> {
 
     ghost view = { λ s. record { members = s.words.members; words = s.words.count } };
 
-    ghost invariant = { λ s. Summarizes T.width s.words s.summary × IsMax s.words.members s.max };
+    ghost invariant = { λ s. Summarizes T.width s.words s.summary.members (s.summary.count * T.width)
+      × IsMax s.words.members s.max };
 }
 
 impl<T: ScalarBitSetStorage> CompoundBitSet<T> {
@@ -64,7 +69,7 @@ impl<T: ScalarBitSetStorage> CompoundBitSet<T> {
     {
         CompoundBitSet {
             words: Store::new(alloc),
-            summary: Store::new(alloc),
+            summary: NumberSet::new(alloc),
             max: None,
         }
     }
@@ -150,8 +155,8 @@ impl<T: ScalarBitSetStorage> CompoundBitSet<T> {
         Ok(self.insert_below(i))
     }
 
-    /// Takes `i` out, and returns whether it was there: `i` may be any number. If it is the maximum, the summary words are read
-    /// down to that of the next one.
+    /// Takes `i` out, and returns whether it was there: `i` may be any number. It takes a few steps, and a few more per level of the
+    /// summary if a word becomes empty, or if `i` is the maximum and the next one is searched for.
     pub fn remove(&mut self, i: usize) -> bool
         ensures present { result ≡ fin_set.contains self.old.members i }
         ensures members { self.new.members ≡ fin_set.remove self.old.members i }
@@ -161,8 +166,7 @@ impl<T: ScalarBitSetStorage> CompoundBitSet<T> {
     {
         let was_present = remove_from(&mut self.words, &mut self.summary, i);
         if self.max == Some(i) {
-            let end = i / T::width() as usize + 1;
-            self.max = greatest_within(&self.words, &self.summary, end);
+            self.max = greatest_marked(&self.words, &self.summary);
         }
         was_present
     }
@@ -185,8 +189,8 @@ impl<T: ScalarBitSetStorage> CompoundBitSet<T> {
         Some(max)
     }
 
-    /// Takes every member out. The words stay. An empty set is left at once; else it reads the summary words up to that of the
-    /// greatest member, and writes each word that has a member once.
+    /// Takes every member out. The words stay. It writes each word that has a member once, and each such word of each level of the
+    /// summary.
     pub fn clear(&mut self)
         ensures members { self.new.members ≡ fin_set.empty }
         ensures words { self.new.words ≡ self.old.words }
@@ -194,9 +198,7 @@ impl<T: ScalarBitSetStorage> CompoundBitSet<T> {
         if self.is_empty() {
             return;
         }
-        let blocks = self.words_in_use().div_ceil(T::width() as usize);
-        self.words.clear_named(&self.summary, blocks);
-        self.summary.clear_within(blocks);
+        clear_marked(&mut self.words, &mut self.summary);
         self.max = None;
     }
 
@@ -250,8 +252,7 @@ impl<T: ScalarBitSetStorage> CompoundBitSet<T> {
         self.words.capacity()
     }
 
-    /// The members, each once, ascending. A walk reads the summary words up to that of the maximum, and each word that has a
-    /// member once.
+    /// The members, each once, ascending. A walk reads each word that has a member once, and a few words of the summary for each.
     pub fn iter(&self) -> Iter<'_, T>
         ensures members { result ≡ rising self.now.members }
         ensures each { fin_set.from_list result ≡ self.now.members }
@@ -260,7 +261,7 @@ impl<T: ScalarBitSetStorage> CompoundBitSet<T> {
         ensures below { All (λ i. i < capacity_of T.width self.now) result }
         ensures numbers { All (λ i. i ≤ 4294967295) result }
     {
-        Iter::new(&self.words, self.filled())
+        Iter::new(Walk::new(&self.words, &self.summary))
     }
 
     /// The words from word 0 to that of the maximum, and none if there is no member: place `j` of word `k` stands for the
@@ -272,7 +273,8 @@ impl<T: ScalarBitSetStorage> CompoundBitSet<T> {
     }
 
     /// The members, ascending, as a vector. It reads each summary word and each word that has a member at most once, and counts
-    /// these reads in `steps`, also if it is refused.
+    /// these reads in `steps`, also if it is refused. It finds the summary words by the levels above them, whose reads, a few for
+    /// each, it doesn't count.
     pub fn members<L: Ledger>(
         &self,
         alloc: Global,
@@ -283,15 +285,14 @@ impl<T: ScalarBitSetStorage> CompoundBitSet<T> {
             + fin_set.len (filled_words T.width self.now.members) }
     {
         let mut list = TryVec::new(alloc);
-        let blocks = self.summary.count();
-        for s in 0..blocks {
+        for s in self.blocks() {
             self.push_block(s, &mut list, steps)?;
         }
         Ok(list)
     }
 
-    // Asks for the word of `i`: the count of words becomes what the rule of growth says. It reserves the room of the summary first,
-    // then that of the words, and changes neither until it has both.
+    // Asks for the word of `i`: the count of words becomes what the rule of growth says. It reserves the room of all levels of the
+    // summary first, then that of the words, and changes none until it has all.
     fn make_room_for(&mut self, i: usize) -> Result<(), OutOfMemory>
         requires number { i ≤ 4294967295 }
         ensures members { self.new.members ≡ self.old.members }
@@ -301,17 +302,15 @@ impl<T: ScalarBitSetStorage> CompoundBitSet<T> {
         ensures refused_only_beyond { OnErr result (capacity_of T.width self.old ≤ i) }
         ensures refusal_leaves { OnErr result (self.new ≡ self.old) }
     {
-        let width = T::width() as usize;
-        let word = i / width;
+        let word = i / T::width() as usize;
         let count = self.words.count();
         if word < count {
             return Ok(());
         }
         let grown = grown_count(count, word);
-        let summary = grown.div_ceil(width);
-        self.summary.reserve(summary)?;
+        self.summary.reserve(grown)?;
         self.words.reserve(grown)?;
-        self.summary.grow(summary);
+        self.summary.grow(grown);
         self.words.grow(grown);
         Ok(())
     }
@@ -324,17 +323,25 @@ impl<T: ScalarBitSetStorage> CompoundBitSet<T> {
         ensures members { self.new.members ≡ fin_set.insert self.old.members i }
         ensures words { self.new.words ≡ self.old.words }
     {
-        self.summary.insert(i / T::width() as usize);
         self.max = Some(greatest_with(self.max, i));
-        self.words.insert(i)
+        insert_into(&mut self.words, &mut self.summary, i)
     }
 
     // A walk over the numbers of the words that have a member.
-    fn filled(&self) -> StoreIter<'_, T>
+    fn filled(&self) -> Walk<'_, T, UpperLevels<T>>
         ensures { result ≡ rising (filled_words T.width self.now.members) }
     {
-        self.summary
-            .iter(self.words_in_use().div_ceil(T::width() as usize))
+        self.summary.iter()
+    }
+
+    // A walk over the numbers of the summary words that have a member.
+    fn blocks(&self) -> Walk<'_, T, TopLevels<T>>
+        ensures blocks { result
+            ≡ rising (filled_words T.width (filled_words T.width self.now.members)) }
+        ensures few { length result ≤ div_ceil self.now.words T.width }
+        ensures within { All (λ b. b < div_ceil self.now.words T.width) result }
+    {
+        self.summary.marks().iter()
     }
 
     // The number of words up to that of the maximum.
@@ -387,26 +394,6 @@ impl<T: ScalarBitSetStorage> CompoundBitSet<T> {
     }
 }
 
-// Takes `i` out of `words`, and its word out of `summary` if that is empty then. Returns whether `i` was there.
-fn remove_from<T: ScalarBitSetStorage>(
-    words: &mut Store<T>,
-    summary: &mut Store<T>,
-    i: usize,
-) -> bool
-    requires { Summarizes T.width words.old summary.old }
-    ensures present { result ≡ fin_set.contains words.old.members i }
-    ensures members { words.new.members ≡ fin_set.remove words.old.members i }
-    ensures count { words.new.count ≡ words.old.count }
-    ensures summary { Summarizes T.width words.new summary.new }
-{
-    let was_present = words.remove(i);
-    let word = i / T::width() as usize;
-    if words.is_word_empty(word) {
-        summary.remove(word);
-    }
-    was_present
-}
-
 // The maximum once `i` is put into a set whose maximum is `max`.
 fn greatest_with(max: Option<usize>, i: usize) -> usize
     ensures { (s : fin_set.FinSet nat_cmp) → IsMax s max → IsGreatest (fin_set.insert s i) result }
@@ -414,24 +401,6 @@ fn greatest_with(max: Option<usize>, i: usize) -> usize
     match max {
         Some(max) => max.max(i),
         None => i,
-    }
-}
-
-// The maximum of `words`, if only the first `end` words have members. It reads one summary word after the other, from that of the
-// last of these words down, and then one word.
-fn greatest_within<T: ScalarBitSetStorage>(
-    words: &Store<T>,
-    summary: &Store<T>,
-    end: usize,
-) -> Option<usize>
-    requires summary { Summarizes T.width words.now summary.now }
-    requires within { end ≤ words.now.count }
-    requires none_after { EndsBefore T.width words.now.members end }
-    ensures { IsMax words.now.members result }
-{
-    match summary.max_within(end.div_ceil(T::width() as usize)) {
-        Some(k) => words.max_of_word(k),
-        None => None,
     }
 }
 

@@ -1,17 +1,15 @@
-//! The plain set in words, over the scalar sets' contracts. A set has two of these: one for its members, and one, its
-//! summary, for the numbers of the words that have a member.
+//! The plain set in words, over the scalar sets' contracts. A set has one of these for its members, and one for each level of its
+//! summary.
 ghost use Rattle.std.specs.Prelude.{◌≡◌, ◌+◌, ◌*◌, ◌<◌, ◌≤◌, ◌↔◌, ◌++◌, ℕ, not, true, length, map};
 ghost use Rattle.std.specs.Prelude.{IsTrue, IsOk, OnOk, OnErr, IfOk};
 ghost use Rattle.std.specs.FinSet as fin_set;
-ghost use Rattle.wic_bitset.specs.Combination.{CombinesBelow, CombinesToNone, CombinesWord, MarksBelow, TellsChange};
+ghost use Rattle.wic_bitset.specs.Combination.{CombinesBelow, CombinesToNone, CombinesWord, TellsChange};
 ghost use Rattle.wic_bitset.specs.Greatest.{IsMax};
-ghost use Rattle.wic_bitset.specs.Rising.{members_between, word_members};
-ghost use Rattle.wic_bitset.specs.Summary.{Summarizes};
+ghost use Rattle.wic_bitset.specs.Rising.{word_members};
 ghost use Rattle.wic_bitset.specs.Words.{most_words, greatest_start, AreFirstWords, EmptiesWord, EndsBefore, IsMaxOfWord};
 ghost use Rattle.wic_bitset.specs.Words.{IsWordEmpty, IsWordOf, SameWord, SameWordsBelow};
 
 use crate::combination::Combination;
-use crate::store_iter::StoreIter;
 use crate::word_iter::WordIter;
 use std::alloc::Global;
 use std::marker::Model;
@@ -73,6 +71,7 @@ impl<T: ScalarBitSetStorage> Store<T> {
         ensures members { self.new.members ≡ self.old.members }
         ensures count { self.new.count ≡ self.old.count }
         ensures room { OnOk result (n ≤ self.new.room) }
+        ensures room_never_falls { self.old.room ≤ self.new.room }
         ensures never_refused_within { n ≤ self.old.room → IsOk result }
         ensures refusal_leaves { OnErr result (self.new ≡ self.old) }
     {
@@ -116,31 +115,19 @@ impl<T: ScalarBitSetStorage> Store<T> {
         }
     }
 
-    /// Empties the words that `summary` names, which are all that have a member. It reads the first `end` words of `summary`,
-    /// which have all of them.
-    pub fn clear_named(&mut self, summary: &Store<T>, end: usize)
-        requires summary { Summarizes T.width self.old summary.now }
-        requires within { end ≤ summary.now.count }
-        requires none_after { EndsBefore T.width summary.now.members end }
-        ensures members { self.new.members ≡ fin_set.empty }
-        ensures count { self.new.count ≡ self.old.count }
-        ensures room { self.new.room ≡ self.old.room }
-    {
-        for k in summary.iter(end) {
-            self.clear_word(k);
-        }
-    }
-
     /// The number of words.
+    #[inline]
     pub fn count(&self) -> usize
         ensures count { result ≡ self.now.count }
         ensures within { result ≤ most_words }
+        ensures room { result ≤ self.now.room }
         ensures holds_all { EndsBefore T.width self.now.members result }
     {
         self.words.len()
     }
 
     /// The capacity: each member is below it.
+    #[inline]
     pub fn capacity(&self) -> usize
         ensures capacity { result ≡ self.now.count * T.width }
         ensures holds_all { (i : ℕ) → fin_set.contains self.now.members i ≡ true → i < result }
@@ -149,6 +136,7 @@ impl<T: ScalarBitSetStorage> Store<T> {
     }
 
     /// Whether `i` is a member: any number.
+    #[inline]
     pub fn contains(&self, i: usize) -> bool
         ensures { result ≡ fin_set.contains self.now.members i }
     {
@@ -160,6 +148,7 @@ impl<T: ScalarBitSetStorage> Store<T> {
     }
 
     /// Puts `i`, for which there is a word, in, and returns whether it is new.
+    #[inline]
     pub fn insert(&mut self, i: usize) -> bool
         requires { i < self.old.count * T.width }
         ensures new { result ≡ not (fin_set.contains self.old.members i) }
@@ -172,6 +161,7 @@ impl<T: ScalarBitSetStorage> Store<T> {
     }
 
     /// Takes `i`, any number, out, and returns whether it was there.
+    #[inline]
     pub fn remove(&mut self, i: usize) -> bool
         ensures present { result ≡ fin_set.contains self.old.members i }
         ensures members { self.new.members ≡ fin_set.remove self.old.members i }
@@ -188,6 +178,7 @@ impl<T: ScalarBitSetStorage> Store<T> {
     }
 
     /// Whether no member stands in word `k`: any number.
+    #[inline]
     pub fn is_word_empty(&self, k: usize) -> bool
         ensures { IsTrue result ↔ IsWordEmpty T.width self.now.members k }
     {
@@ -262,24 +253,8 @@ impl<T: ScalarBitSetStorage> Store<T> {
         true
     }
 
-    /// Makes this, whose numbers are those of words, have of the first `end` numbers just those whose word in `words` has
-    /// a member.
-    pub fn mark(&mut self, words: &Store<T>, end: usize)
-        requires { end ≤ self.old.count * T.width }
-        ensures marks { MarksBelow T.width words.now.members end self.old.members self.new.members }
-        ensures count { self.new.count ≡ self.old.count }
-        ensures room { self.new.room ≡ self.old.room }
-    {
-        for k in 0..end {
-            if words.is_word_empty(k) {
-                self.remove(k);
-            } else {
-                self.insert(k);
-            }
-        }
-    }
-
     /// The greatest member in word `k`, or `None` if it is empty.
+    #[inline]
     pub fn max_of_word(&self, k: usize) -> Option<usize>
         requires { k < self.now.count }
         ensures { IsMaxOfWord T.width self.now.members k result }
@@ -319,6 +294,7 @@ impl<T: ScalarBitSetStorage> Store<T> {
     }
 
     /// A walk over the members in word `k`.
+    #[inline]
     pub fn iter_word(&self, k: usize) -> WordIter<T>
         requires { k < self.now.count }
         ensures members { result ≡ word_members T.width self.now.members k }
@@ -336,16 +312,9 @@ impl<T: ScalarBitSetStorage> Store<T> {
         self.iter_word(k)
     }
 
-    /// A walk over the members in the first `end` words: each word is read once.
-    pub fn iter(&self, end: usize) -> StoreIter<'_, T>
-        requires { end ≤ self.now.count }
-        ensures members { result ≡ members_between self.now.members 0 (end * T.width) }
-    {
-        StoreIter::new(self, end)
-    }
-
-    // Word `k`.
-    fn word(&self, k: usize) -> ScalarBitSet<T>
+    /// Word `k`.
+    #[inline]
+    pub fn word(&self, k: usize) -> ScalarBitSet<T>
         requires { k < self.now.count }
         ensures { IsWordOf T.width self.now.members k (T.number result.0) }
     {
@@ -362,8 +331,9 @@ impl<T: ScalarBitSetStorage> Store<T> {
         }
     }
 
-    // The first number of word `k`.
-    fn start(&self, k: usize) -> usize
+    /// The first number of word `k`.
+    #[inline]
+    pub fn start(&self, k: usize) -> usize
         requires { k < self.now.count }
         ensures start { result ≡ k * T.width }
         ensures small { result ≤ greatest_start }

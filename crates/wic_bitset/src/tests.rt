@@ -197,11 +197,20 @@ fn a_copy_goes_its_own_way(rt: HostRuntime) -> Result<(), Fail> {
     Ok(())
 }
 
+// Lists of members, the last of a set whose members stand in different words of the last level.
+#[derive(Drop)]
+struct Lists {
+    five: TryVec<usize>,
+    two: TryVec<usize>,
+    none: TryVec<usize>,
+    far: TryVec<usize>,
+}
+
 // Lists of members, counted in a new ledger.
 fn counted<L: Ledger>(
     alloc: Global,
     blank: Blank,
-) -> Result<(TryVec<usize>, TryVec<usize>, TryVec<usize>), OutOfMemory>
+) -> Result<Lists, OutOfMemory>
     requires name { blank.name ≡ L.name }
     requires parts { blank.parts ≡ L.parts }
     requires some { 0 < L.parts }
@@ -210,15 +219,58 @@ fn counted<L: Ledger>(
     let five = set_of::<u64>(alloc, &[0, 4096, 123, 456, 789])?.members(alloc, &mut steps)?;
     let two = far_apart(alloc, &mut steps)?;
     let none = emptied(alloc, &mut steps)?;
-    Ok((five, two, none))
+    let far = set_of::<u8>(alloc, &[100000, 0, 40000])?.members(alloc, &mut steps)?;
+    Ok(Lists {
+        five,
+        two,
+        none,
+        far,
+    })
 }
 
 #[test]
 fn members_are_listed(rt: HostRuntime) -> Result<(), Fail> {
-    let (five, two, none) = counted::<Brand>(rt.alloc(), Blank::new(1))?;
-    assert_eq!(rt; five.as_slice(), [0, 123, 456, 789, 4096].as_slice());
-    assert_eq!(rt; two.as_slice(), [0, 10000000].as_slice());
-    assert!(rt; none.is_empty());
+    let lists = counted::<Brand>(rt.alloc(), Blank::new(1))?;
+    assert_eq!(rt; lists.five.as_slice(), [0, 123, 456, 789, 4096].as_slice());
+    assert_eq!(rt; lists.two.as_slice(), [0, 10000000].as_slice());
+    assert!(rt; lists.none.is_empty());
+    assert_eq!(rt; lists.far.as_slice(), [0, 40000, 100000].as_slice());
+    Ok(())
+}
+
+// The members of a set of these numbers as a walk gives them, as `pop` does, and once they are put in again, cleared, and 7 is put in.
+fn through_levels<T: ScalarBitSetStorage>(
+    alloc: Global,
+    numbers: &[u32],
+) -> Result<(Vec<usize>, Vec<usize>, Vec<usize>), Fail> {
+    let mut set = set_of::<T>(alloc, numbers)?;
+    let walked = listed(alloc, &set)?;
+    let mut popped = Vec::new(alloc);
+    for _ in 0..=numbers.len() {
+        if let Some(member) = set.pop() {
+            popped.push(member)?;
+        }
+    }
+    for number in numbers {
+        set.insert(*number as usize)?;
+    }
+    set.clear();
+    set.insert(7)?;
+    let cleared = listed(alloc, &set)?;
+    Ok((walked, popped, cleared))
+}
+
+#[test]
+fn members_far_apart_are_walked_popped_and_cleared(rt: HostRuntime) -> Result<(), Fail> {
+    let (walked, popped, cleared) =
+        through_levels::<u64>(rt.alloc(), &[20000000, 0, 63, 300000, 64])?;
+    assert_eq!(rt; walked.as_slice(), [0, 63, 64, 300000, 20000000].as_slice());
+    assert_eq!(rt; popped.as_slice(), [20000000, 300000, 64, 63, 0].as_slice());
+    assert_eq!(rt; cleared.as_slice(), [7].as_slice());
+    let (walked, popped, cleared) = through_levels::<u8>(rt.alloc(), &[100000, 8, 0, 40000])?;
+    assert_eq!(rt; walked.as_slice(), [0, 8, 40000, 100000].as_slice());
+    assert_eq!(rt; popped.as_slice(), [100000, 40000, 8, 0].as_slice());
+    assert_eq!(rt; cleared.as_slice(), [7].as_slice());
     Ok(())
 }
 

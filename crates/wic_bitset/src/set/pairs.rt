@@ -6,10 +6,10 @@ ghost use Rattle.wic_base.specs.Sets.{AllBelow, HasFrom, HasMore};
 ghost use Rattle.wic_bitset.specs.Compound.{capacity_of};
 ghost use Rattle.wic_base.specs.Sets.{IsGreatest};
 ghost use Rattle.wic_bitset.specs.Growth.{count_after};
-ghost use Rattle.wic_bitset.specs.Summary.{SameInFilledWords};
 
-use super::{CompoundBitSet, greatest_within};
+use super::CompoundBitSet;
 use crate::combination::Combination;
+use crate::marked::{greatest_marked, mark_below, same_marked};
 use wic_base::OutOfMemory;
 use wic_scalar::ScalarBitSetStorage;
 
@@ -86,32 +86,12 @@ impl<T: ScalarBitSetStorage> CompoundBitSet<T> {
             .combines_to_none(&other.words, Combination::Intersection, end)
     }
 
-    // Whether the two have the same members. It compares the summary words up to that of the greatest member, and then each word
-    // that has a member.
+    // Whether the two have the same members. It compares the levels of the summaries first, and then each word that has
+    // a member.
     pub(crate) fn has_same_members(&self, other: &CompoundBitSet<T>) -> bool
         ensures { IsTrue result ↔ (self.now.members ≡ other.now.members) }
     {
-        let end = self.words_in_use();
-        let blocks = end.div_ceil(T::width() as usize);
-        if end != other.words_in_use() {
-            return false;
-        }
-        if !self.summary.has_same_words(&other.summary, blocks) {
-            return false;
-        }
-        self.has_same_filled_words(other)
-    }
-
-    // Whether each word that has a member here has the same members in `other`.
-    fn has_same_filled_words(&self, other: &CompoundBitSet<T>) -> bool
-        ensures { IsTrue result ↔ SameInFilledWords T.width self.now.members other.now.members }
-    {
-        for k in self.filled() {
-            if !self.words.has_same_word(&other.words, k) {
-                return false;
-            }
-        }
-        true
+        same_marked(&self.words, &self.summary, &other.words, &other.summary)
     }
 
     // Becomes what `how` makes of it and `other`, of which the first `end` words alone may change, and returns whether a
@@ -124,11 +104,10 @@ impl<T: ScalarBitSetStorage> CompoundBitSet<T> {
         ensures changed { TellsChange result self.old.members self.new.members }
         ensures words { self.new.words ≡ self.old.words }
     {
-        let reach = self.words_in_use().max(end);
         let changed = self.words.combine(&other.words, how, end);
         if changed {
-            self.summary.mark(&self.words, end);
-            self.max = greatest_within(&self.words, &self.summary, reach);
+            mark_below(&self.words, &mut self.summary, end);
+            self.max = greatest_marked(&self.words, &self.summary);
         }
         changed
     }

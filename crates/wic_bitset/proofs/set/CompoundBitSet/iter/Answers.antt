@@ -12,21 +12,8 @@ use Rattle.wic_bitset.proofs.RisingFacts.{All-rising, from_list-rising, length-r
 use Rattle.wic_bitset.proofs.SummaryFacts.{All-filled}
 use Rattle.wic_bitset.proofs.set.CompoundBitSet.iter.Goals as goal
 
-pub new-requires : goal.new-requires
-new-requires g c =
-    let w = g.T.ScalarBitSetStorage.width in
-    subst (All (λ k. k < c.self.inside.words.count))
-    (sym (c.filled.ensures ∙ ap (λ v. rising (filled_words w v.members)) (sym c.self.view_is)))
-    (All-filled w _ _ c.self.invariant.0)
-
 pub returns-clause-members : goal.returns-clause-members
-returns-clause-members g c =
-    let w = g.T.ScalarBitSetStorage.width in
-    let s = c.args.self.now.members in
-    c.new.ensures
-    ∙ ap (λ v. flat_map (word_members w v.members) c.filled.result) c.self.view_is
-    ∙ ap (flat_map (word_members w s)) c.filled.ensures
-    ∙ by_words w s g.T.ScalarBitSetStorage.width_within.positive
+returns-clause-members g c = c.new-2.ensures ∙ c.new.ensures ∙ ap (λ v. rising v.members) c.self.view_is
 
 pub returns-clause-each : goal.returns-clause-each
 returns-clause-each g c = ap (from_list {R = nat_cmp}) (returns-clause-members g c) ∙ from_list-rising c.args.self.now.members

@@ -22,7 +22,7 @@ loop-k-init g c =
         omega (arith, few, length-rising s),
         subst (All (λ k. k < c.args.self.now.words)) (sym filled)
             (subst (λ v. All (λ k. k < v.words) (rising (filled_words w v.members))) c.self.view_is
-            (All-filled w _ _ c.self.invariant.0)),
+            (All-filled w _ _ _ c.self.invariant.0)),
       ),
     )
 

@@ -6,5 +6,5 @@ pub returns-clause-room : goal.returns-clause-room
 returns-clause-room g c =
     let w = g.T.ScalarBitSetStorage.width in
     let room = subst (λ count. c.args.i < count * w) (sym (c.grow-2.ensures.count ∙ c.grown_count-grown.ensures.count))
-    (holds_asked w c.width-width.result c.count-count.result c.width-width.ensures.value c.width-width.ensures.positive c.args.i) in
+    (holds_asked w c.width.result c.count-count.result c.width.ensures.value c.width.ensures.positive c.args.i) in
     omega (arith, room)

@@ -1,67 +1,69 @@
-use Rattle.std.proofs.Common.{ℕ, true, ◌≡◌, ◌+◌, ◌*◌, ◌++◌, ◌<◌, length, length-append, sym, ap, subst, ◌∙◌, arith}
+use Rattle.std.proofs.Common.{ℕ, ◌≡◌, ◌++◌, ◌<◌, ◌≤◌, length, length-append, append-nil, sym, ap, subst, ◌∙◌, arith}
+use Rattle.std.specs.Prelude.{All}
 use Rattle.std.specs.Int.{div_ceil}
-use Rattle.std.specs.FinSet.{contains}
 use Rattle.std.specs.List.{flat_map}
-use Rattle.std.proofs.lemmas.Grind.{flat_map-append}
-use Rattle.wic_bitset.specs.Rising.{members_between, word_members}
-use Rattle.wic_bitset.specs.Summary.{block_words, filled_words}
-use Rattle.wic_bitset.proofs.BetweenFacts.{between-last_word}
-use Rattle.wic_bitset.proofs.ByWordFacts.{by_words}
-use Rattle.wic_bitset.proofs.RisingFacts.{between-rising, length-between-le}
-use Rattle.wic_bitset.proofs.SummaryFacts.{filled_below}
+use Rattle.std.proofs.lemmas.List.{append_assoc}
+use Rattle.std.proofs.lemmas.List.Elements.{All-head, All-tail}
+use Rattle.wic_bitset.specs.Summary.{block_members, block_words, filled_words}
+use Rattle.wic_bitset.proofs.BlockFacts.{members_by_blocks, words_by_blocks}
+use Rattle.wic_bitset.proofs.RisingFacts.{length-rising}
 use Rattle.wic_bitset.proofs.set.CompoundBitSet.members.Goals as goal
+
+pub loop-s-init : goal.loop-s-init
+loop-s-init g c =
+    let w = g.T.ScalarBitSetStorage.width in
+    let some = g.T.ScalarBitSetStorage.width_within.positive in
+    let s = c.args.self.now.members in
+    let given = c.into_iter-s-iterator.ensures.into_iter_gives ∙ c.blocks-s-items.ensures.blocks in
+    let long = ap length (ap (flat_map (block_words w s)) given ∙ words_by_blocks w s some) in
+    let few = c.blocks-s-items.ensures.few in record {
+      listed = ap (λ xs. xs ++ flat_map (block_members w s) c.into_iter-s-iterator.result) c.new-list.ensures.empty
+          ∙ ap (flat_map (block_members w s)) given ∙ members_by_blocks w s some;
+      looks = omega (arith, long, length-rising (filled_words w s), ap length c.into_iter-s-iterator.ensures.into_iter_gives);
+      within = subst (All (λ b. b < div_ceil c.args.self.now.words w)) (sym c.into_iter-s-iterator.ensures.into_iter_gives)
+          c.blocks-s-items.ensures.within;
+    }
+
+pub push_block-requires : goal.push_block-requires
+push_block-requires g c =
+    let below = λ (b : ℕ). b < div_ceil c.args.self.now.words g.T.ScalarBitSetStorage.width in
+    All-head below c.in-Some.s _ (subst (All below) c.in-Some.ensures.steps c.loop-s.invariant.within)
 
 pub loop-s-preserved : goal.loop-s-preserved
 loop-s-preserved g c =
     let w = g.T.ScalarBitSetStorage.width in
     let s = c.args.self.now.members in
-    let walked = members_between (filled_words w s) 0 (c.loop-s.s * w) in
-    let block = block_words w s c.loop-s.s in
-    let more = between-last_word w (filled_words w s) c.loop-s.s in
-    let long = ap length more in
+    let members = block_members w s in
+    let words = block_words w s in
+    let below = λ (b : ℕ). b < div_ceil c.args.self.now.words w in
+    let old = c.loop-s.list.items in
+    let rest = flat_map members c.next.new.self in
+    let shorter = ap length c.in-Some.ensures.steps in
+    let fewer = ap (λ bs. length (flat_map words bs)) c.in-Some.ensures.steps in
     let looks = c.in_ok-push_block.ensures.looks in
-    let before = c.loop-s.invariant.1 in (
-      c.in_ok-push_block.ensures.members
-          ∙ ap (λ xs. xs ++ flat_map (word_members w s) block) c.loop-s.invariant.0
-          ∙ sym (flat_map-append (word_members w s) walked block)
-          ∙ ap (flat_map (word_members w s)) (sym more),
-      omega (arith, long, length-append walked block),
-    )
+    let before = c.loop-s.invariant.looks in record {
+      listed = ap (λ xs. xs ++ rest) c.in_ok-push_block.ensures.members
+          ∙ append_assoc old (members c.in-Some.s) rest
+          ∙ ap (λ bs. old ++ flat_map members bs) (sym c.in-Some.ensures.steps)
+          ∙ c.loop-s.invariant.listed;
+      looks = omega (arith, length-append (words c.in-Some.s) (flat_map words c.next.new.self));
+      within = All-tail below c.in-Some.s _ (subst (All below) c.in-Some.ensures.steps c.loop-s.invariant.within);
+    }
 
 pub returns-in_err-push_block-clause-looks : goal.returns-in_err-push_block-clause-looks
 returns-in_err-push_block-clause-looks g c =
-    let w = g.T.ScalarBitSetStorage.width in
-    let filled = filled_words w c.args.self.now.members in
-    let long = ap length (between-last_word w filled c.loop-s.s) in
-    let most = length-between-le filled ((c.loop-s.s + 1) * w) in
-    let size = c.self.invariant.0.size ∙ ap (λ v. div_ceil v.words w) c.self.view_is in
+    let words = block_words g.T.ScalarBitSetStorage.width c.args.self.now.members in
+    let shorter = ap length c.in-Some.ensures.steps in
+    let fewer = ap (λ bs. length (flat_map words bs)) c.in-Some.ensures.steps in
     let looks = c.in_err-push_block.ensures.looks in
-    let before = c.loop-s.invariant.1 in
-    omega (
-      arith,
-      long,
-      most,
-      size,
-      length-append (members_between filled 0 (c.loop-s.s * w)) (block_words w c.args.self.now.members c.loop-s.s),
-    )
+    let before = c.loop-s.invariant.looks in
+    omega (arith, length-append (words c.in-Some.s) (flat_map words c.next.new.self))
 
 pub returns-clause-looks : goal.returns-clause-looks
-returns-clause-looks g c =
-    let w = g.T.ScalarBitSetStorage.width in
-    let most = length-between-le (filled_words w c.args.self.now.members) (c.loop-s.s * w) in
-    let size = c.self.invariant.0.size ∙ ap (λ v. div_ceil v.words w) c.self.view_is in
-    let before = c.loop-s.invariant.1 in
-    omega (arith, most, size)
+returns-clause-looks g c = omega (arith, c.loop-s.invariant.looks)
 
 pub returns-clause-members : goal.returns-clause-members
 returns-clause-members g c =
-    let w = g.T.ScalarBitSetStorage.width in
-    let some = g.T.ScalarBitSetStorage.width_within.positive in
-    let s = c.args.self.now.members in
-    let end : c.self.inside.summary.count ≡ c.loop-s.s = omega arith in
-    let below = subst (λ n. (k : ℕ) → contains (filled_words w s) k ≡ true → k < n * w) end
-    (subst (λ v. (k : ℕ) → contains (filled_words w v.members) k ≡ true → k < c.self.inside.summary.count * w) c.self.view_is
-    (filled_below w _ _ some c.self.invariant.0)) in
-    c.loop-s.invariant.0
-    ∙ ap (flat_map (word_members w s)) (between-rising (filled_words w s) (c.loop-s.s * w) below)
-    ∙ by_words w s some
+    let members = block_members g.T.ScalarBitSetStorage.width c.args.self.now.members in
+    let old = c.loop-s.list.items in
+    sym (append-nil old) ∙ ap (λ bs. old ++ flat_map members bs) (sym c.in-None.ensures.steps.0) ∙ c.loop-s.invariant.listed

@@ -1,11 +1,20 @@
-use Rattle.std.proofs.Common.{◌≡◌, ◌+◌, ◌*◌, ◌≤◌, length}
+use Rattle.std.proofs.Common.{◌≡◌, ◌+◌, ◌++◌, ◌<◌, ◌≤◌, length}
+use Rattle.std.specs.Prelude.{All}
+use Rattle.std.specs.Int.{div_ceil}
+use Rattle.std.specs.FinSet.{len}
 use Rattle.std.specs.List.{flat_map}
-use Rattle.wic_bitset.specs.Rising.{members_between, word_members}
-use Rattle.wic_bitset.specs.Summary.{filled_words}
+use Rattle.wic_bitset.specs.Rising.{rising}
+use Rattle.wic_bitset.specs.Summary.{block_members, block_words, filled_words}
 use Rattle.wic_bitset.proofs.set.CompoundBitSet.members.Given as goal
 
 abbrev pub invariant-loop-s : goal.invariant-loop-s
 invariant-loop-s g l =
     let w = g.T.ScalarBitSetStorage.width in
-    let walked = members_between (filled_words w l.self.members) 0 (l.s * w) in
-    (l.list.items ≡ flat_map (word_members w l.self.members) walked) × (l.steps ≤ l.fn.steps + l.s + length walked)
+    let set = l.self in
+    let left = l.s-iterator in
+    record {
+      listed : l.list.items ++ flat_map (block_members w set.members) left ≡ rising set.members;
+      looks : l.steps + length left + length (flat_map (block_words w set.members) left)
+          ≤ l.fn.steps + div_ceil set.words w + len (filled_words w set.members);
+      within : All (λ b. b < div_ceil set.words w) left;
+    }

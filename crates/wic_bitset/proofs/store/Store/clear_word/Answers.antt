@@ -8,7 +8,8 @@ returns-clause-members g c =
     let w = g.T.ScalarBitSetStorage.width in
     let items = c.self.inside.words.items in
     subst
-    (λ v. EmptiesWord w c.args.k v.members (set_of_words w (map (λ s. g.T.ScalarBitSetStorage.number s.0) (set items c.args.k c.new.result))))
+    (λ v. EmptiesWord w c.args.k v.members
+    (set_of_words w (map (λ s. g.T.ScalarBitSetStorage.number s.0) (set items c.args.k c.new.result))))
     c.self.view_is
     (empties_word (λ s. g.T.ScalarBitSetStorage.number s.0) w c.args.k items c.new.result g.T.ScalarBitSetStorage.width_within.positive
     (subst (λ v. c.args.k < v.count) (sym c.self.view_is) c.requires) c.new.ensures)

@@ -1,0 +1,20 @@
+use Rattle.std.proofs.Common.{◌≡◌, ◌*◌, ◌≤◌, sym, ap, subst, ◌∙◌, arith}
+use Rattle.std.specs.Int.{div_ceil}
+use Rattle.wic_bitset.proofs.DivisionFacts.{div_ceil-least}
+use Rattle.wic_bitset.proofs.RoomFacts.{room_for}
+use Rattle.std.proofs.lemmas.Result.{on_ok_weaker}
+use Rattle.wic_bitset.proofs.plain.StoreNumberSet.reserve.Goals as goal
+
+pub returns-clause-enough : goal.returns-clause-enough
+returns-clause-enough g c =
+    let w = g.T.ScalarBitSetStorage.width in
+    let need = c.div_ceil.ensures ∙ ap (div_ceil c.args.n) c.width.ensures.value in
+    on_ok_weaker c.reserve_words.result (λ le. room_for w c.args.n c.reserve_words.new.words.room
+    g.T.ScalarBitSetStorage.width_within.positive (omega arith)) c.reserve_words.ensures.enough
+
+pub returns-clause-never_refused_within : goal.returns-clause-never_refused_within
+returns-clause-never_refused_within g c within =
+    let w = g.T.ScalarBitSetStorage.width in
+    let need = c.div_ceil.ensures ∙ ap (div_ceil c.args.n) c.width.ensures.value in
+    let le = div_ceil-least w c.args.n c.args.self.now.room g.T.ScalarBitSetStorage.width_within.positive within in
+    c.reserve_words.ensures.never_refused_within (omega arith)

@@ -1,0 +1,28 @@
+use Rattle.std.proofs.Common.{◌<◌, ◌≤◌, length, ap, sym, subst, ◌∙◌}
+use Rattle.std.specs.Prelude.{All}
+use Rattle.std.specs.Int.{div_ceil}
+use Rattle.wic_bitset.specs.Rising.{rising}
+use Rattle.wic_bitset.specs.Summary.{filled_words}
+use Rattle.wic_bitset.proofs.BlockFacts.{All-blocks, few_blocks}
+use Rattle.wic_bitset.proofs.SummaryFacts.{summary_is_filled_words}
+use Rattle.wic_bitset.proofs.set.CompoundBitSet.blocks.Goals as goal
+
+pub returns-clause-blocks : goal.returns-clause-blocks
+returns-clause-blocks g c =
+    let w = g.T.ScalarBitSetStorage.width in
+    let marks = summary_is_filled_words w c.self.inside.words _ _ c.self.invariant.0 ∙ ap (λ v. filled_words w v.members) c.self.view_is in
+    c.iter.ensures ∙ ap rising (c.marks.ensures ∙ ap (filled_words w) marks)
+
+pub returns-clause-few : goal.returns-clause-few
+returns-clause-few g c =
+    let w = g.T.ScalarBitSetStorage.width in
+    subst (λ bs. length bs ≤ div_ceil c.args.self.now.words w) (sym (returns-clause-blocks g c))
+    (subst (λ v. length (rising (filled_words w (filled_words w v.members))) ≤ div_ceil v.words w) c.self.view_is
+    (few_blocks w c.self.inside.words _ _ c.self.invariant.0 g.T.ScalarBitSetStorage.width_within.positive))
+
+pub returns-clause-within : goal.returns-clause-within
+returns-clause-within g c =
+    let w = g.T.ScalarBitSetStorage.width in
+    subst (All (λ b. b < div_ceil c.args.self.now.words w)) (sym (returns-clause-blocks g c))
+    (subst (λ v. All (λ b. b < div_ceil v.words w) (rising (filled_words w (filled_words w v.members)))) c.self.view_is
+    (All-blocks w c.self.inside.words _ _ c.self.invariant.0 g.T.ScalarBitSetStorage.width_within.positive))

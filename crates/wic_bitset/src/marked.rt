@@ -1,0 +1,160 @@
+//! Words, and the set of the numbers of those that have a member, their marks. One level is done here for all: the words of a
+//! set with its summary, and each level of the summary with the one above it.
+ghost use Rattle.std.specs.Prelude.{◌≡◌, ◌↔◌, ◌*◌, ◌<◌, ◌≤◌, ℕ, not, true, IsTrue};
+ghost use Rattle.std.specs.FinSet as fin_set;
+ghost use Rattle.wic_bitset.specs.Combination.{MarksBelow};
+ghost use Rattle.wic_bitset.specs.From.{IsMinFrom};
+ghost use Rattle.wic_bitset.specs.Greatest.{IsMax};
+ghost use Rattle.wic_bitset.specs.Summary.{Summarizes};
+
+use crate::number_set::NumberSet;
+use crate::store::Store;
+use crate::word::least_in_word;
+use wic_scalar::ScalarBitSetStorage;
+
+/// Puts `i`, for which there is a word, into `words`, and its word into `marks` if that was empty. Returns whether `i` is new.
+#[inline]
+pub fn insert_into<T: ScalarBitSetStorage, S: NumberSet>(
+    words: &mut Store<T>,
+    marks: &mut S,
+    i: usize,
+) -> bool
+    requires marks { Summarizes T.width words.old (S.members marks.old) (S.end marks.old) }
+    requires within { i < words.old.count * T.width }
+    requires number { i ≤ 4294967295 }
+    ensures new { result ≡ not (fin_set.contains words.old.members i) }
+    ensures members { words.new.members ≡ fin_set.insert words.old.members i }
+    ensures count { words.new.count ≡ words.old.count }
+    ensures room { words.new.room ≡ words.old.room }
+    ensures marks_room { S.room marks.new ≡ S.room marks.old }
+    ensures marks { Summarizes T.width words.new (S.members marks.new) (S.end marks.new) }
+{
+    let k = i / T::width() as usize;
+    if words.is_word_empty(k) {
+        marks.insert(k);
+    }
+    words.insert(i)
+}
+
+/// Takes `i`, any number, out of `words`, and its word out of `marks` if that is empty then. Returns whether `i` was there.
+#[inline]
+pub fn remove_from<T: ScalarBitSetStorage, S: NumberSet>(
+    words: &mut Store<T>,
+    marks: &mut S,
+    i: usize,
+) -> bool
+    requires { Summarizes T.width words.old (S.members marks.old) (S.end marks.old) }
+    ensures present { result ≡ fin_set.contains words.old.members i }
+    ensures members { words.new.members ≡ fin_set.remove words.old.members i }
+    ensures count { words.new.count ≡ words.old.count }
+    ensures room { words.new.room ≡ words.old.room }
+    ensures marks_room { S.room marks.new ≡ S.room marks.old }
+    ensures marks { Summarizes T.width words.new (S.members marks.new) (S.end marks.new) }
+{
+    if !words.remove(i) {
+        return false;
+    }
+    let word = i / T::width() as usize;
+    if words.is_word_empty(word) {
+        marks.remove(word);
+    }
+    true
+}
+
+/// Takes every member out: it empties the words that `marks` has, one after the other, and then `marks`.
+pub fn clear_marked<T: ScalarBitSetStorage, S: NumberSet>(words: &mut Store<T>, marks: &mut S)
+    requires { Summarizes T.width words.old (S.members marks.old) (S.end marks.old) }
+    ensures members { words.new.members ≡ fin_set.empty }
+    ensures count { words.new.count ≡ words.old.count }
+    ensures room { words.new.room ≡ words.old.room }
+    ensures marks_room { S.room marks.new ≡ S.room marks.old }
+    ensures marks { Summarizes T.width words.new (S.members marks.new) (S.end marks.new) }
+{
+    let mut next = 0;
+    while let Some(k) = marks.least_from(next) {
+        words.clear_word(k);
+        next = k + 1;
+    }
+    marks.clear();
+}
+
+/// The greatest member: that of the greatest word that `marks` has.
+#[inline]
+pub fn greatest_marked<T: ScalarBitSetStorage, S: NumberSet>(
+    words: &Store<T>,
+    marks: &S,
+) -> Option<usize>
+    requires { Summarizes T.width words.now (S.members marks.now) (S.end marks.now) }
+    ensures { IsMax words.now.members result }
+{
+    match marks.greatest() {
+        Some(k) => words.max_of_word(k),
+        None => None,
+    }
+}
+
+/// The least member from `i` on: in the word of `i`, or else in the next word that `marks` has.
+#[inline]
+pub fn least_marked_from<T: ScalarBitSetStorage, S: NumberSet>(
+    words: &Store<T>,
+    marks: &S,
+    i: usize,
+) -> Option<usize>
+    requires { Summarizes T.width words.now (S.members marks.now) (S.end marks.now) }
+    ensures { IsMinFrom words.now.members i result }
+{
+    let first = i / T::width() as usize;
+    if first >= words.count() {
+        return None;
+    }
+    if let Some(x) = least_in_word(words, i) {
+        return Some(x);
+    }
+    match marks.least_from(first + 1) {
+        Some(k) => least_in_word(words, words.start(k)),
+        None => None,
+    }
+}
+
+/// Whether the two have the same members. It compares the marks first, and then each word that has one.
+pub fn same_marked<T: ScalarBitSetStorage, S: NumberSet>(
+    words: &Store<T>,
+    marks: &S,
+    other_words: &Store<T>,
+    other_marks: &S,
+) -> bool
+    requires marks { Summarizes T.width words.now (S.members marks.now) (S.end marks.now) }
+    requires other_marks { Summarizes T.width other_words.now (S.members other_marks.now)
+        (S.end other_marks.now) }
+    ensures { IsTrue result ↔ (words.now.members ≡ other_words.now.members) }
+{
+    if !marks.is_same(other_marks) {
+        return false;
+    }
+    let mut next = 0;
+    while let Some(k) = marks.least_from(next) {
+        if !words.has_same_word(other_words, k) {
+            return false;
+        }
+        next = k + 1;
+    }
+    true
+}
+
+/// Makes `marks` have of the first `end` numbers just those whose word in `words` has a member.
+pub fn mark_below<T: ScalarBitSetStorage, S: NumberSet>(words: &Store<T>, marks: &mut S, end: usize)
+    requires within { end ≤ S.end marks.old }
+    requires numbers { (i : ℕ) → fin_set.contains words.now.members i ≡ true → i ≤ 4294967295 }
+    ensures marks { MarksBelow T.width words.now.members end (S.members marks.old)
+        (S.members marks.new) }
+    ensures end { S.end marks.new ≡ S.end marks.old }
+    ensures room { S.room marks.new ≡ S.room marks.old }
+{
+    for k in 0..end {
+        if words.is_word_empty(k) {
+            marks.remove(k);
+        } else {
+            marks.insert(k);
+        }
+    }
+}
