@@ -78,7 +78,7 @@ walk_gives old word rest left (Some x) is some gives = is ∙ ap (λ xs. xs ++ r
 -- a call that gives the first of what is left makes what is left shorter
 pub walk_goes : (can : List ℕ → Type 0) (old new : List ℕ) (r : Option ℕ) → ((xs : List ℕ) → can xs) → YieldsFirst (λ xs. xs) old r new
     → MakesProgress can (item_count (λ xs. xs)) old r new
-walk_goes can old new None always gives = record { on = λ _. tt; keeps = tt; rests = λ _. tt; }
+walk_goes can old new None always gives = record { on = λ _. tt; keeps = tt; rests = λ _. tt }
 walk_goes can old new (Some x) always gives =
     let shorter = ap length gives in record {
       on = λ _. (always new, tt, omega arith);

@@ -22,7 +22,8 @@ impl Combination {
         right: ScalarBitSet<T>,
     ) -> ScalarBitSet<T>
         ensures { (j : ℕ) → j < T.width
-            → is_one (T.number result.0) j ≡ combined self (is_one (T.number left.0) j) (is_one (T.number right.0) j) }
+            → is_one (T.number result.0) j
+            ≡ combined self (is_one (T.number left.0) j) (is_one (T.number right.0) j) }
     {
         match self {
             Combination::Union => ScalarBitSet(left.0.bit_or(right.0)),

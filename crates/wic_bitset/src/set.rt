@@ -58,7 +58,7 @@ impl<T: ScalarBitSetStorage> Model for CompoundBitSet<T> {
     ghost view = { λ s. record { members = s.words.members; words = s.words.count } };
 
     ghost invariant = { λ s. Summarizes T.width s.words s.summary.members (s.summary.count * T.width)
-      × IsMax s.words.members s.max };
+        × IsMax s.words.members s.max };
 }
 
 impl<T: ScalarBitSetStorage> CompoundBitSet<T> {
@@ -118,7 +118,8 @@ impl<T: ScalarBitSetStorage> CompoundBitSet<T> {
     /// Makes room for the numbers below `n`, as `try_ensure_capacity` does.
     pub fn ensure_capacity(&mut self, n: usize) -> Result<(), OutOfMemory>
         requires within { n ≤ 4294967296 }
-        ensures room { MakesRoomFor (λ s. s.members) (capacity_of T.width) n self.old self.new result }
+        ensures room { MakesRoomFor (λ s. s.members) (capacity_of T.width) n
+            self.old self.new result }
         ensures words { OnOk result (self.new.words ≡ count_for T.width self.old.words n) }
     {
         self.try_ensure_capacity(n)
@@ -129,7 +130,8 @@ impl<T: ScalarBitSetStorage> CompoundBitSet<T> {
     /// before, where the original loses the members.
     pub fn try_ensure_capacity(&mut self, n: usize) -> Result<(), OutOfMemory>
         requires within { n ≤ 4294967296 }
-        ensures room { MakesRoomFor (λ s. s.members) (capacity_of T.width) n self.old self.new result }
+        ensures room { MakesRoomFor (λ s. s.members) (capacity_of T.width) n
+            self.old self.new result }
         ensures words { OnOk result (self.new.words ≡ count_for T.width self.old.words n) }
     {
         if n == 0 {
@@ -146,7 +148,8 @@ impl<T: ScalarBitSetStorage> CompoundBitSet<T> {
         ensures members { OnOk result (self.new.members ≡ fin_set.insert self.old.members i) }
         ensures words { OnOk result (self.new.words ≡ count_after self.old.words (i / T.width)) }
         ensures never_refused_below { i < capacity_of T.width self.old → IsOk result }
-        ensures words_kept_below { i < capacity_of T.width self.old → self.new.words ≡ self.old.words }
+        ensures words_kept_below { i < capacity_of T.width self.old
+            → self.new.words ≡ self.old.words }
         ensures refused_only_beyond { OnErr result (capacity_of T.width self.old ≤ i) }
         ensures capacity_never_falls { capacity_of T.width self.old ≤ capacity_of T.width self.new }
         ensures refusal_leaves { OnErr result (self.new ≡ self.old) }

@@ -192,7 +192,8 @@ impl<T: ScalarBitSetStorage> Store<T> {
     /// went. A word that `other` hasn't is empty.
     pub fn combine(&mut self, other: &Store<T>, how: Combination, end: usize) -> bool
         requires { end ≤ self.old.count }
-        ensures members { CombinesBelow T.width how end self.old.members other.now.members self.new.members }
+        ensures members { CombinesBelow T.width how end
+            self.old.members other.now.members self.new.members }
         ensures changed { TellsChange result self.old.members self.new.members }
         ensures count { self.new.count ≡ self.old.count }
         ensures room { self.new.room ≡ self.old.room }
@@ -209,7 +210,8 @@ impl<T: ScalarBitSetStorage> Store<T> {
     // Makes of word `k` what `how` makes of it and of that of `other`, and returns whether a member came or went.
     fn combine_word(&mut self, other: &Store<T>, how: Combination, k: usize) -> bool
         requires { k < self.old.count }
-        ensures members { CombinesWord T.width how k self.old.members other.now.members self.new.members }
+        ensures members { CombinesWord T.width how k
+            self.old.members other.now.members self.new.members }
         ensures changed { TellsChange result self.old.members self.new.members }
         ensures count { self.new.count ≡ self.old.count }
         ensures room { self.new.room ≡ self.old.room }
@@ -242,7 +244,8 @@ impl<T: ScalarBitSetStorage> Store<T> {
 
     /// Whether what `how` makes of the first `end` words and of those of `other` has no member.
     pub fn combines_to_none(&self, other: &Store<T>, how: Combination, end: usize) -> bool
-        ensures { IsTrue result ↔ CombinesToNone T.width how end self.now.members other.now.members }
+        ensures { IsTrue result
+            ↔ CombinesToNone T.width how end self.now.members other.now.members }
     {
         for k in 0..end {
             let word = how.of_words(self.word_or_empty(k), other.word_or_empty(k));
@@ -287,7 +290,8 @@ impl<T: ScalarBitSetStorage> Store<T> {
     pub fn first_words(&self, n: usize) -> &[ScalarBitSet<T>]
         requires { n ≤ self.now.count }
         ensures count { length result.now ≡ n }
-        ensures words { AreFirstWords T.width self.now.members (map (λ s. T.number s.0) result.now) }
+        ensures words { AreFirstWords T.width self.now.members
+            (map (λ s. T.number s.0) result.now) }
     {
         let words = self.words.as_slice();
         &words[..n]

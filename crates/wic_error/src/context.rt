@@ -19,7 +19,8 @@ pub trait Context<T, K: Kind + Drop>: Sized {
     /// context if there is no error. A value is returned as `Ok` and never refused.
     fn context(self, alloc: Global, context: K) -> Result<T, Error<K>>
         ensures kept { IfSome (value self) (λ x. result ≡ Ok x) }
-        ensures in_context { IfNone (value self) (IsErrAnd result (IsInContext (cause self) context)) };
+        ensures in_context { IfNone (value self)
+            (IsErrAnd result (IsInContext (cause self) context)) };
 
     /// The same with the context that `f` returns. It is called only if there is no value, also if the error is out of
     /// memory, and needs to be callable only then.
@@ -27,7 +28,8 @@ pub trait Context<T, K: Kind + Drop>: Sized {
         requires { ForNone (value self) (F.pre f) }
         ensures kept { IfSome (value self) (λ x. result ≡ Ok x) }
         ensures in_context { IfNone (value self)
-            ((context : K) × F.post f context × IsErrAnd result (IsInContext (cause self) context)) };
+            ((context : K) × F.post f context
+            × IsErrAnd result (IsInContext (cause self) context)) };
 }
 
 /// The context goes in front of the error's links.

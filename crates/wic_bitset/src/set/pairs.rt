@@ -26,7 +26,8 @@ impl<T: ScalarBitSetStorage> CompoundBitSet<T> {
             (added ≡ false) ↔ (self.new.members ≡ self.old.members)) }
         ensures words { OnOk result ((x : ℕ) → IsGreatest other.now.members x
             → self.new.words ≡ count_after self.old.words (x / T.width)) }
-        ensures never_refused_within { AllBelow (capacity_of T.width self.old) other.now.members → IsOk result }
+        ensures never_refused_within { AllBelow (capacity_of T.width self.old) other.now.members
+            → IsOk result }
         ensures words_kept_within { AllBelow (capacity_of T.width self.old) other.now.members
             → self.new.words ≡ self.old.words }
         ensures refused_only_beyond { OnErr result
@@ -100,7 +101,8 @@ impl<T: ScalarBitSetStorage> CompoundBitSet<T> {
         requires within { end ≤ self.old.words }
         requires rest { LeavesFrom T.width how end self.old.members other.now.members }
         ensures members { (i : ℕ) → fin_set.contains self.new.members i
-            ≡ combined how (fin_set.contains self.old.members i) (fin_set.contains other.now.members i) }
+            ≡ combined how (fin_set.contains self.old.members i)
+            (fin_set.contains other.now.members i) }
         ensures changed { TellsChange result self.old.members self.new.members }
         ensures words { self.new.words ≡ self.old.words }
     {
