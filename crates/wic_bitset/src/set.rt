@@ -58,7 +58,7 @@ impl<T: ScalarBitSetStorage> Model for CompoundBitSet<T> {
     ghost view = { λ s. record { members = s.words.members; words = s.words.count } };
 
     ghost invariant = { λ s. Summarizes T.width s.words s.summary.members (s.summary.count * T.width)
-      × IsMax s.words.members s.max };
+        × IsMax s.words.members s.max };
 }
 
 impl<T: ScalarBitSetStorage> CompoundBitSet<T> {

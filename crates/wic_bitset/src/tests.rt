@@ -207,10 +207,7 @@ struct Lists {
 }
 
 // Lists of members, counted in a new ledger.
-fn counted<L: Ledger>(
-    alloc: Global,
-    blank: Blank,
-) -> Result<Lists, OutOfMemory>
+fn counted<L: Ledger>(alloc: Global, blank: Blank) -> Result<Lists, OutOfMemory>
     requires name { blank.name ≡ L.name }
     requires parts { blank.parts ≡ L.parts }
     requires some { 0 < L.parts }
@@ -262,8 +259,10 @@ fn through_levels<T: ScalarBitSetStorage>(
 
 #[test]
 fn members_far_apart_are_walked_popped_and_cleared(rt: HostRuntime) -> Result<(), Fail> {
-    let (walked, popped, cleared) =
-        through_levels::<u64>(rt.alloc(), &[20000000, 0, 63, 300000, 64])?;
+    let (walked, popped, cleared) = through_levels::<u64>(
+        rt.alloc(),
+        &[20000000, 0, 63, 300000, 64],
+    )?;
     assert_eq!(rt; walked.as_slice(), [0, 63, 64, 300000, 20000000].as_slice());
     assert_eq!(rt; popped.as_slice(), [20000000, 300000, 64, 63, 0].as_slice());
     assert_eq!(rt; cleared.as_slice(), [7].as_slice());

@@ -31,10 +31,10 @@ impl<'a, T: ScalarBitSetStorage, S: NumberSet> Model for Walk<'a, T, S> {
     ghost Value = { List ℕ };
 
     ghost view = { λ it. it.left
-      ++ members_between it.words.now.members (it.next * T.width) (it.words.now.count * T.width) };
+        ++ members_between it.words.now.members (it.next * T.width) (it.words.now.count * T.width) };
 
     ghost invariant = { λ it. (it.next ≤ it.words.now.count)
-      × Summarizes T.width it.words.now (S.members it.marks.now) (S.end it.marks.now) };
+        × Summarizes T.width it.words.now (S.members it.marks.now) (S.end it.marks.now) };
 }
 
 impl<'a, T: ScalarBitSetStorage, S: NumberSet> Walk<'a, T, S> {
