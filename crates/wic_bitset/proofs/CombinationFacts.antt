@@ -1,8 +1,7 @@
 -- Two sets, a word at a time: what one word changes, and what all words together do.
 use Rattle.std.proofs.Common.{⊎_elim, ◌⊎◌, inl, inr, ◌≡◌, ◌≢◌, ℕ, zero, suc, ◌+◌, ◌-◌, ◌*◌, ◌/◌, ◌%◌, ◌<◌, ◌≤◌, Bool, true, false, not}
 use Rattle.std.proofs.Common.{◌&&◌, ◌||◌}
-use Rattle.std.proofs.Common.{List, [], map, set, slice_get, Some, min, refl, sym, ap, subst, ◌∙◌, ◌↔◌, IsTrue, arith}
-use Rattle.std.specs.Int.{div_ceil}
+use Rattle.std.proofs.Common.{List, map, set, slice_get, Some, min, refl, sym, ap, subst, ◌∙◌, ◌↔◌, IsTrue, arith}
 use Rattle.std.specs.Ordering.{nat_cmp}
 use Rattle.std.specs.Cmp.{nat_cmp_total}
 use Rattle.std.specs.FinSet.{FinSet, empty, contains, insert, remove, union, intersection, difference, is_subset, same_set}
@@ -20,7 +19,6 @@ use Rattle.wic_scalar.proofs.MemberFacts.{contains_below, none_from_empty, same_
 use Rattle.wic_scalar.proofs.CallFacts.{set_of-none, set_of-same}
 use Rattle.wic_bitset.specs.Combination.{combined, TellsChange, CombinesWord, CombinesBelow, CombinesToNone, LeavesFrom}
 use Rattle.wic_bitset.specs.Combination.{MarksBelow}
-use Rattle.wic_base.specs.Sets.{HasMore}
 use Rattle.wic_base.specs.Sets.{IsGreatest}
 use Rattle.wic_bitset.specs.Summary.{Summarizes}
 use Rattle.wic_bitset.specs.Words.{Words, EndsBefore, IsWordOf, IsWordEmpty, set_of_words}

@@ -1,17 +1,17 @@
 -- Two sets compared word by word.
-use Rattle.std.proofs.Common.{⊎_elim, ◌≡◌, ℕ, ◌+◌, ◌*◌, ◌/◌, ◌%◌, ◌<◌, ◌≤◌, ◌⊎◌, inl, inr, Bool, true, false, List, [], ◌∷◌, sym, ap, ◌∙◌}
+use Rattle.std.proofs.Common.{⊎_elim, ◌≡◌, ℕ, ◌+◌, ◌*◌, ◌/◌, ◌%◌, ◌<◌, Bool, true, sym, ap, ◌∙◌}
 use Rattle.std.proofs.Common.{arith, IsTrue, ◌↔◌, max, refl}
 use Rattle.std.specs.Ordering.{nat_cmp}
 use Rattle.std.specs.Cmp.{nat_cmp_total}
-use Rattle.std.specs.FinSet.{FinSet, contains, contains-empty, same_set, nat_cmp-IsAntisymmetric}
+use Rattle.std.specs.FinSet.{FinSet, contains, same_set, nat_cmp-IsAntisymmetric}
 use Rattle.std.proofs.lemmas.Bool.{cases_eq, cases_lt, cases_Bool, false_from_ne_true}
-use Rattle.std.proofs.lemmas.Nat.{mod_below, div-mul-add}
+use Rattle.std.proofs.lemmas.Nat.{div-mul-add}
 use Rattle.wic_scalar.specs.Scalar.{set_of}
 use Rattle.wic_scalar.proofs.MemberFacts.{contains_below}
 use Rattle.wic_scalar.proofs.CallFacts.{set_of-same}
 use Rattle.wic_bitset.specs.From.{IsLeastFrom, NoneFrom}
 use Rattle.wic_bitset.specs.Summary.{filled_words, Summarizes}
-use Rattle.wic_bitset.specs.Words.{Words, EndsBefore, IsWordEmpty, IsWordOf, SameWord, SameWordsBelow}
+use Rattle.wic_bitset.specs.Words.{Words, EndsBefore, IsWordOf, SameWord, SameWordsBelow}
 use Rattle.wic_bitset.proofs.SummaryFacts.{summary_is_filled_words}
 use Rattle.wic_bitset.proofs.WordFacts.{by_digit}
 
