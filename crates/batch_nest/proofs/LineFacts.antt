@@ -164,7 +164,8 @@ module _ {X : Type 0} where
   pub unbalanced_end : (all left : List (NestLine X)) (line : NestLine X) (rest : List (NestLine X)) (depth : ℕ) → left ≡ line ∷ rest
       → ((line ≡ CommitLine) ⊎ (line ≡ AbortLine)) → depth ≡ 0 → IsOpenFor all left depth → ¬ IsBalanced all
   unbalanced_end all left line rest depth split is none now balanced =
-      never_closes line rest is (subst (λ d. Closes d (line ∷ rest)) none (subst (Closes depth) split (now.on (closes_balanced all balanced))))
+      never_closes line rest is
+      (subst (λ d. Closes d (line ∷ rest)) none (subst (Closes depth) split (now.on (closes_balanced all balanced))))
 
   -- once no line is left, the lines are balanced exactly if none is open
   pub balanced_in_the_end : (all left : List (NestLine X)) (depth : ℕ) → left ≡ [] → IsOpenFor all left depth
