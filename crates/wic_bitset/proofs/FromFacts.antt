@@ -1,17 +1,17 @@
 -- The least member from a number on: within a word, and from one word to the next.
-use Rattle.std.proofs.Common.{⊎_elim, ◌≡◌, ◌≢◌, ℕ, ◌+◌, ◌*◌, ◌/◌, ◌%◌, ◌<◌, ◌≤◌, Bool, true, false, not, ◌&&◌, Option, Some, None, refl}
-use Rattle.std.proofs.Common.{sym, ap, subst, ◌∙◌, arith}
+use Rattle.std.proofs.Common.{⊎_elim, ◌≡◌, ℕ, ◌+◌, ◌*◌, ◌/◌, ◌%◌, ◌<◌, ◌≤◌, true, not, ◌&&◌}
+use Rattle.std.proofs.Common.{sym, ap, ◌∙◌, arith}
 use Rattle.std.specs.Prelude.{nat_lt}
 use Rattle.std.specs.Ordering.{nat_cmp}
 use Rattle.std.specs.FinSet.{FinSet, empty, contains}
-use Rattle.std.proofs.lemmas.Bool.{cases_eq, cases_lt, cases_Bool, false_from_ne_true}
+use Rattle.std.proofs.lemmas.Bool.{cases_lt, false_from_ne_true}
 use Rattle.std.proofs.lemmas.Bool.Decides.{nat_tests}
 use Rattle.std.proofs.lemmas.Nat.{div-mul-add, mod-mul-add, div-add-mod', mod_below}
 use Rattle.std.proofs.Math.Nat.{mul-le-mul_right}
 use Rattle.wic_scalar.specs.Digits.{is_one}
 use Rattle.wic_scalar.specs.Scalar.{set_of}
 use Rattle.wic_base.specs.Sets.{IsLeast}
-use Rattle.wic_scalar.proofs.MemberFacts.{contains_below, below_width, none_from_empty}
+use Rattle.wic_scalar.proofs.MemberFacts.{contains_below, none_from_empty}
 use Rattle.wic_bitset.specs.Words.{EndsBefore, IsWordOf}
 use Rattle.wic_bitset.proofs.DivisionFacts.{div_mono, next_start}
 use Rattle.wic_bitset.specs.From.{NoneFrom, IsLeastFrom, NoneInWord, IsLeastInWord, NoneUntil}

@@ -1,7 +1,6 @@
 -- Every change keeps the summary.
 use Rattle.std.proofs.Common.{⊎_elim, ◌≡◌, ◌≢◌, ℕ, ◌+◌, ◌*◌, ◌/◌, ◌<◌, ◌≤◌, true, false, Option, Some, None, refl, sym, ap, subst}
 use Rattle.std.proofs.Common.{◌∙◌, ◌↔◌, arith}
-use Rattle.std.specs.Int.{div_ceil}
 use Rattle.std.specs.Ordering.{nat_cmp}
 use Rattle.std.specs.FinSet.{FinSet, empty, contains, insert, remove}
 use Rattle.std.proofs.lemmas.Bool.{cases_eq, cases_lt, cases_Bool, false_from_ne_true}
@@ -9,16 +8,14 @@ use Rattle.std.specs.Prelude.{All}
 use Rattle.wic_bitset.specs.Rising.{rising, word_members}
 use Rattle.wic_bitset.proofs.BetweenFacts.{All-between}
 use Rattle.wic_bitset.proofs.RisingFacts.{All-rising}
-use Rattle.wic_bitset.specs.Compound.{Compound}
 use Rattle.wic_bitset.specs.Greatest.{IsMax}
 use Rattle.wic_base.specs.Sets.{IsGreatest}
 use Rattle.wic_bitset.specs.Words.{Words, most_words, EndsBefore, IsMaxOfWord, IsWordEmpty}
 use Rattle.wic_bitset.specs.Summary.{Summarizes, block_words, filled_words}
 use Rattle.wic_bitset.proofs.ByWordFacts.{filled_words-empty}
-use Rattle.wic_bitset.proofs.DivisionFacts.{below_div_ceil, div_ceil-mono, div_ceil-reaches}
 use Rattle.wic_bitset.proofs.GreatestFacts.{greatest_of_last_word}
 use Rattle.wic_base.proofs.SetFacts.{empty_of_none, none_in_empty, there_after_insert, same_after_insert, gone_after_remove}
-use Rattle.wic_base.proofs.SetFacts.{insert_present, remove_absent, same_after_remove, same_by_absence, was_before_remove}
+use Rattle.wic_base.proofs.SetFacts.{insert_present, same_after_remove, same_by_absence, was_before_remove}
 
 -- other words are as empty as before
 other_word : (w i k : ℕ) (s t : FinSet nat_cmp) → ((q : ℕ) → q ≢ i → contains t q ≡ contains s q) → k ≢ i / w

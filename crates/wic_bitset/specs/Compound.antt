@@ -1,5 +1,5 @@
 -- What a contract sees of a compound set.
-use Rattle.std.specs.Prelude.{◌≡◌, ℕ, ◌*◌, refl}
+use Rattle.std.specs.Prelude.{ℕ, ◌*◌, refl}
 use Rattle.std.specs.Ordering.{nat_cmp}
 use Rattle.std.specs.FinSet.{FinSet, code}
 use Rattle.std.specs.Coded.{Coded, code_by, coded×, coded_ℕ}

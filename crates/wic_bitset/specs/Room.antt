@@ -1,8 +1,7 @@
 -- What a call does that makes room in a set, or joins another set to it.
-use Rattle.std.specs.Prelude.{◌≡◌, ◌↔◌, ℕ, ◌<◌, ◌≤◌, Bool, false, Result, IsOk, IsTrue, OnOk, OnErr, IfOk}
+use Rattle.std.specs.Prelude.{◌≡◌, ℕ, ◌<◌, ◌≤◌, Result, IsOk, OnOk, OnErr}
 use Rattle.std.specs.Ordering.{nat_cmp}
-use Rattle.std.specs.FinSet.{FinSet, union}
-use Rattle.wic_base.specs.Sets.{AllBelow, HasFrom, HasMore}
+use Rattle.std.specs.FinSet.{FinSet}
 
 -- these two functions give the members of a set and its capacity
 module _ {S A E : Type 0} (members : S → FinSet nat_cmp) (capacity : S → ℕ) where

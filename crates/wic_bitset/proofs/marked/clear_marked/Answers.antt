@@ -1,4 +1,4 @@
-use Rattle.std.proofs.Common.{◌≡◌, ◌≤◌, ◌∙◌, sym, arith}
+use Rattle.std.proofs.Common.{arith}
 use Rattle.wic_bitset.proofs.ClearFacts.{stands_marked-none}
 use Rattle.wic_bitset.proofs.SummaryFacts.{Summarizes-none}
 use Rattle.wic_bitset.proofs.marked.clear_marked.Goals as goal

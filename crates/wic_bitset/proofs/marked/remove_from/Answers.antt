@@ -1,4 +1,4 @@
-use Rattle.std.proofs.Common.{◌/◌, ◌≤◌, ap, subst, sym, refl, ◌∙◌, arith}
+use Rattle.std.proofs.Common.{◌/◌, ap, subst, sym, refl, ◌∙◌, arith}
 use Rattle.std.specs.FinSet.{remove}
 use Rattle.std.proofs.lemmas.Bool.{iff_false}
 use Rattle.wic_base.proofs.SetFacts.{remove_absent}

@@ -1,6 +1,6 @@
-use Rattle.std.proofs.Common.{◌≡◌, ◌+◌, ◌*◌, ◌/◌, ◌<◌, ◌≤◌, sym, ap, subst, ◌∙◌, arith}
+use Rattle.std.proofs.Common.{◌≡◌, ◌+◌, ◌/◌, sym, ap, subst, arith}
 use Rattle.wic_bitset.specs.From.{IsLeastInWord, NoneInWord, NoneUntil}
-use Rattle.wic_bitset.proofs.FromFacts.{none_from-past, none_from-end, none_until-first, none_until-next, least_from-first, least_from-next}
+use Rattle.wic_bitset.proofs.FromFacts.{none_from-past, none_until-first, none_until-next, least_from-first, least_from-next}
 use Rattle.wic_bitset.proofs.plain.scan_from.Goals as goal
 
 pub returns-then-first-count : goal.returns-then-first-count

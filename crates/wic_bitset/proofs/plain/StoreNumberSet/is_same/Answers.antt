@@ -1,4 +1,4 @@
-use Rattle.std.proofs.Common.{ap, subst, sym}
+use Rattle.std.proofs.Common.{ap, subst}
 use Rattle.std.specs.FinSet.{contains}
 use Rattle.wic_bitset.specs.Words.{SameWordsBelow}
 use Rattle.wic_bitset.proofs.SameFacts.{same_words_all}

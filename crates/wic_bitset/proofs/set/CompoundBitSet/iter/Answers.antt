@@ -2,14 +2,10 @@ use Rattle.std.proofs.Common.{◌*◌, ◌<◌, ◌≤◌, length, sym, ap, ◌�
 use Rattle.std.specs.Prelude.{All}
 use Rattle.std.proofs.Math.Nat.{div-lt_iff_lt-mul}
 use Rattle.std.specs.Ordering.{nat_cmp}
-use Rattle.std.specs.List.{flat_map}
 use Rattle.std.specs.List.Sorted.{IsStrictlyIncreasing}
 use Rattle.std.specs.FinSet.{from_list}
-use Rattle.wic_bitset.specs.Rising.{rising, word_members}
-use Rattle.wic_bitset.specs.Summary.{filled_words}
-use Rattle.wic_bitset.proofs.ByWordFacts.{by_words}
+use Rattle.wic_bitset.specs.Rising.{rising}
 use Rattle.wic_bitset.proofs.RisingFacts.{All-rising, from_list-rising, length-rising-le, IsStrictlyIncreasing-rising}
-use Rattle.wic_bitset.proofs.SummaryFacts.{All-filled}
 use Rattle.wic_bitset.proofs.set.CompoundBitSet.iter.Goals as goal
 
 pub returns-clause-members : goal.returns-clause-members

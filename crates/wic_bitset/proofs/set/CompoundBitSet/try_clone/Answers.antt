@@ -1,4 +1,4 @@
-use Rattle.std.proofs.Common.{◌≤◌, sym, subst, arith}
+use Rattle.std.proofs.Common.{sym, subst, arith}
 use Rattle.wic_bitset.specs.Greatest.{IsMax}
 use Rattle.wic_bitset.proofs.SummaryFacts.{Summarizes-grown}
 use Rattle.wic_bitset.proofs.set.CompoundBitSet.try_clone.Goals as goal

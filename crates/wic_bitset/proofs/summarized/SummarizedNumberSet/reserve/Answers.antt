@@ -1,4 +1,4 @@
-use Rattle.std.proofs.Common.{◌≡◌, ◌*◌, ◌≤◌, min, sym, ap, subst, ◌∙◌, arith}
+use Rattle.std.proofs.Common.{ap, ◌∙◌, arith}
 use Rattle.std.specs.Int.{div_ceil}
 use Rattle.wic_bitset.proofs.DivisionFacts.{div_ceil-least}
 use Rattle.wic_bitset.proofs.RoomFacts.{room_for}

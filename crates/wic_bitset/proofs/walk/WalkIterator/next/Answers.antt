@@ -1,8 +1,7 @@
-use Rattle.std.proofs.Common.{ℕ, ◌≡◌, ◌+◌, ◌*◌, ◌++◌, List, [], sym, ap, subst, ◌∙◌, refl}
-use Rattle.std.specs.Prelude.{None}
+use Rattle.std.proofs.Common.{ℕ, ◌≡◌, ◌+◌, ◌*◌, ◌++◌, List, [], sym, ap, subst, ◌∙◌}
 use Rattle.std.specs.Iterator.{YieldsFirst}
-use Rattle.wic_bitset.specs.Rising.{members_between, word_members}
-use Rattle.wic_bitset.proofs.WalkFacts.{walk_end, walk_gives, walk_goes, walk_next, walk_some, walk_within}
+use Rattle.wic_bitset.specs.Rising.{members_between}
+use Rattle.wic_bitset.proofs.WalkFacts.{walk_end, walk_gives, walk_goes, walk_next, walk_some}
 use Rattle.wic_bitset.proofs.walk.WalkIterator.next.Goals as goal
 
 pub returns-in_err-k-clause-steps : goal.returns-in_err-k-clause-steps
