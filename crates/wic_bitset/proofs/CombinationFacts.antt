@@ -1,30 +1,31 @@
 -- Two sets, a word at a time: what one word changes, and what all words together do.
-use Rattle.std.proofs.Common.{⊎_elim, ◌⊎◌, inl, inr, ◌≡◌, ◌≢◌, ℕ, zero, suc, ◌+◌, ◌-◌, ◌*◌, ◌/◌, ◌%◌, ◌<◌, ◌≤◌, Bool, true, false, not}
+use Rattle.std.proofs.Common.{⊎_elim, ◌⊎◌, inl, inr, ◌≡◌, ◌≢◌, ℕ, zero, suc, ◌+◌, ◌*◌, ◌/◌, ◌%◌, ◌<◌, ◌≤◌, Bool, true, false, not}
 use Rattle.std.proofs.Common.{◌&&◌, ◌||◌}
-use Rattle.std.proofs.Common.{List, map, set, slice_get, Some, min, refl, sym, ap, subst, ◌∙◌, ◌↔◌, IsTrue, arith}
+use Rattle.std.proofs.Common.{List, map, set, slice_get, Some, refl, sym, ap, subst, ◌∙◌, ◌↔◌, IsTrue, arith}
 use Rattle.std.specs.Ordering.{nat_cmp}
 use Rattle.std.specs.Cmp.{nat_cmp_total}
 use Rattle.std.specs.FinSet.{FinSet, empty, contains, insert, remove, union, intersection, difference, is_subset, same_set}
 use Rattle.std.specs.FinSet.{nat_cmp-IsAntisymmetric, contains-union, contains-intersection, contains-difference}
 use Rattle.std.specs.FinSet.{is_subset-contains, contains-is_subset}
-use Rattle.std.proofs.lemmas.Bool.{cases_eq, cases_lt, and_parts, or_cases, both_ways}
+use Rattle.std.proofs.lemmas.Bool.{cases_eq, cases_lt, cases_Bool, and_parts, or_cases, both_ways}
 use Rattle.std.proofs.lemmas.Bool.{iff_false}
 use Rattle.std.proofs.lemmas.Bool.{false_from_ne_true}
 use Rattle.std.proofs.lemmas.List.{map-set}
-use Rattle.std.proofs.lemmas.Nat.{div_below, div-mul-add, mod-mul-add, mod_below}
+use Rattle.std.proofs.lemmas.Nat.{div-mul-add, mod-mul-add, mod_below}
 use Rattle.std.proofs.Math.Nat.{div-le_self}
 use Rattle.wic_scalar.specs.Digits.{is_one}
 use Rattle.wic_scalar.specs.Scalar.{set_of}
 use Rattle.wic_scalar.proofs.MemberFacts.{contains_below, none_from_empty, same_from_sets}
 use Rattle.wic_scalar.proofs.CallFacts.{set_of-none, set_of-same}
-use Rattle.wic_bitset.specs.Combination.{combined, TellsChange, CombinesWord, CombinesBelow, CombinesToNone, LeavesFrom}
-use Rattle.wic_bitset.specs.Combination.{MarksBelow}
+use Rattle.wic_bitset.specs.Combination.{combined, words_to_combine, TellsChange, CombinesWord, CombinesToNone, KeepsNone, HasWordsFor}
+use Rattle.wic_bitset.specs.From.{IsLeastFrom, NoneFrom}
 use Rattle.wic_base.specs.Sets.{IsGreatest}
 use Rattle.wic_bitset.specs.Summary.{Summarizes}
-use Rattle.wic_bitset.specs.Words.{Words, EndsBefore, IsWordOf, IsWordEmpty, set_of_words}
+use Rattle.wic_bitset.specs.Words.{Words, IsWordOf, IsWordEmpty, set_of_words}
 use Rattle.wic_bitset.specs.declared.combination.Combination.{Combination}
 use Rattle.wic_bitset.specs.declared.combination.Combination.TheVariants.{Union, Intersection, Difference}
-use Rattle.wic_bitset.proofs.DivisionFacts.{div_mono}
+use Rattle.wic_bitset.proofs.SummaryFacts.{below_end, filled, no_empty_word, summary_within}
+use Rattle.wic_bitset.proofs.MarkedFacts.{HoldsMarked}
 use Rattle.wic_base.proofs.SetFacts.{there_after_insert, same_after_insert, gone_after_remove, same_after_remove, empty_of_none}
 use Rattle.wic_base.proofs.SetFacts.{none_in_empty}
 use Rattle.wic_bitset.proofs.WordFacts.{here_now, elsewhere, below_length, in_word, by_digit}
@@ -108,119 +109,25 @@ module _ {X : Type 0} (f : X → ℕ) (w k : ℕ) (items : List X) (x y : X) (so
       (λ agree. absurd (iff_false test refl (set_of-same w (f y) (f x) agree)))
       (differ_or_agree (is_one (f y)) (is_one (f x)) w)
 
--- ---- word after word
-
-module _ (w : ℕ) (how : Combination) where
-  -- no word is done
-  pub combines_none : (s t : FinSet nat_cmp) → CombinesBelow w how 0 s t s
-  combines_none s t = record { inside = λ i below. absurd (omega arith); outside = λ i _. refl }
-
-  module _ (k : ℕ) (s t old new : FinSet nat_cmp) (before : CombinesBelow w how k s t old) (word : CombinesWord w how k old t new) where
-    -- one word more is done
-    pub combines_more : CombinesBelow w how (k + 1) s t new
-    combines_more = record {
-      inside = λ i below. ⊎_elim
-          (λ at. word.here i at ∙ ap (λ a. combined how a (contains t i)) (before.outside i (omega arith)))
-          (λ apart. word.elsewhere i apart ∙ before.inside i (omega arith))
-          (cases_eq (i / w) k);
-      outside = λ i above. word.elsewhere i (λ at. absurd (omega arith)) ∙ before.outside i (omega arith);
-    }
-
-    -- and whether the set is another one since the first word
-    tells_more : (a b : Bool) → TellsChange a s old → TellsChange b old new → TellsChange (a || b) s new
-    tells_more true b first second =
-        let i = first.0 in (
-          i,
-          ⊎_elim
-              (λ above. absurd (not_its_negation (contains s i) (sym (before.outside i above) ∙ first.1)))
-              (λ below. word.elsewhere i (λ at. absurd (omega arith)) ∙ first.1)
-              (order i),
-        )
-      where
-        order : (i : ℕ) → (k ≤ i / w) ⊎ (i / w < k)
-        order i = ⊎_elim (λ below. inr below) (λ above. inl above) (cases_lt (i / w) k)
-    tells_more false b first second = subst (λ (r : FinSet nat_cmp). TellsChange b r new) first second
-
-    -- the word changed, or it didn't
-    pub tells_changed : (a b c : Bool) → b ≡ true → c ≡ true → TellsChange a s old → TellsChange b old new → TellsChange c s new
-    tells_changed a b c one is first second =
-        subst (λ (r : Bool). TellsChange r s new) (ap (λ r. a || r) one ∙ any_true a ∙ sym is) (tells_more a b first second)
-      where
-        any_true : (a : Bool) → (a || true) ≡ true
-        any_true true = refl
-        any_true false = refl
-
-    -- the word stayed as it was, so the result stays too
-    pub tells_unchanged : (a b c : Bool) → b ≡ false → c ≡ a → TellsChange a s old → TellsChange b old new → TellsChange c s new
-    tells_unchanged a b c none is first second =
-        subst (λ (r : Bool). TellsChange r s new) (ap (λ r. a || r) none ∙ any_false a ∙ sym is) (tells_more a b first second)
-      where
-        any_false : (a : Bool) → (a || false) ≡ a
-        any_false true = refl
-        any_false false = refl
-
-  -- one more word whose combination has no member
-  pub none_more : (k m n r : ℕ) (s t : FinSet nat_cmp) → 0 < w → IsWordOf w s k m → IsWordOf w t k n
-      → ((j : ℕ) → j < w → is_one r j ≡ combined how (is_one m j) (is_one n j))
-      → set_of w r ≡ empty
-      → CombinesToNone w how k s t → CombinesToNone w how (k + 1) s t
-  none_more k m n r s t some first second digits none before i below = ⊎_elim
-      (λ at.
+-- the test of one word of a combination
+pub none_of_word : (w : ℕ) (how : Combination) (k m n r : ℕ) (s t : FinSet nat_cmp) (b : Bool) → 0 < w → IsWordOf w s k m
+    → IsWordOf w t k n → ((j : ℕ) → j < w → is_one r j ≡ combined how (is_one m j) (is_one n j))
+    → (IsTrue b ↔ (set_of w r ≡ empty)) → IsTrue b ↔ CombinesToNone w how k s t
+none_of_word w how k m n r s t b some first second digits test = (
+  λ yes i at.
       let low = mod_below i w some in
       let one : contains s i ≡ is_one m (i % w) = by_digit w s k m some first i at ∙ contains_below w m (i % w) low in
       let other : contains t i ≡ is_one n (i % w) = by_digit w t k n some second i at ∙ contains_below w n (i % w) low in
       ap (λ a. combined how a (contains t i)) one ∙ ap (combined how (is_one m (i % w))) other
-      ∙ sym (digits (i % w) low) ∙ none_from_empty w r (i % w) none low)
-      (λ apart. before i (omega arith))
-      (cases_eq (i / w) k)
-
-  -- a word whose combination has a member
-  pub none_not : (end k m n r : ℕ) (s t : FinSet nat_cmp) → k < end → IsWordOf w s k m → IsWordOf w t k n
-      → ((j : ℕ) → j < w → is_one r j ≡ combined how (is_one m j) (is_one n j))
-      → CombinesToNone w how end s t → set_of w r ≡ empty
-  none_not end k m n r s t below first second digits none = set_of-none w r (λ j low.
-      let place : (k * w + j) / w ≡ k = div-mul-add k w j low in
+      ∙ sym (digits (i % w) low) ∙ none_from_empty w r (i % w) (test.0 yes) low,
+  λ none. test.1 (set_of-none w r (λ j low.
       let one : is_one m j ≡ contains s (k * w + j) = sym (contains_below w m j low) ∙ first j low in
       let other : is_one n j ≡ contains t (k * w + j) = sym (contains_below w n j low) ∙ second j low in
       digits j low ∙ ap (λ a. combined how a (is_one n j)) one ∙ ap (combined how (contains s (k * w + j))) other
-      ∙ none (k * w + j) (omega arith))
+      ∙ none (k * w + j) (div-mul-add k w j low))),
+)
 
--- ---- marks
-
--- no word is marked yet
-pub marks_none : (w : ℕ) (words old : FinSet nat_cmp) → MarksBelow w words 0 old old
-marks_none w words old = record { inside = λ k below. absurd (omega arith); outside = λ k _. refl }
-
-module _ (w k : ℕ) (words first old : FinSet nat_cmp) (before : MarksBelow w words k first old) where
-  -- one more word, which is empty
-  pub marks_empty : IsWordEmpty w words k → MarksBelow w words (k + 1) first (remove old k)
-  marks_empty none = record {
-    inside = λ j below. ⊎_elim
-        (λ at. subst (λ q. (contains (remove old k) q ≡ false) ↔ IsWordEmpty w words q) (sym at)
-        (λ _. none, λ _. gone_after_remove old k))
-        (λ apart.
-        let same = same_after_remove old k j apart in
-        let was = before.inside j (omega arith) in
-        (λ no. was.0 (sym same ∙ no), λ no. same ∙ was.1 no))
-        (cases_eq j k);
-    outside = λ j above. same_after_remove old k j (λ at. absurd (omega arith)) ∙ before.outside j (omega arith);
-  }
-
-  -- one more word, which has a member
-  pub marks_filled : (IsWordEmpty w words k → ⊥) → MarksBelow w words (k + 1) first (insert old k)
-  marks_filled filled = record {
-    inside = λ j below. ⊎_elim
-        (λ at. subst (λ q. (contains (insert old k) q ≡ false) ↔ IsWordEmpty w words q) (sym at)
-        (λ no. absurd (let yes = there_after_insert old k in cc), λ none. absurd (filled none)))
-        (λ apart.
-        let same = same_after_insert old k j apart in
-        let was = before.inside j (omega arith) in
-        (λ no. was.0 (sym same ∙ no), λ no. same ∙ was.1 no))
-        (cases_eq j k);
-    outside = λ j above. same_after_insert old k j (λ at. absurd (omega arith)) ∙ before.outside j (omega arith);
-  }
-
--- ---- the whole set
+-- ---- one word and its mark
 
 -- a member of a combination is a member of one of the two
 of_either : (how : Combination) (a b : Bool) → combined how a b ≡ true → (a ≡ true) ⊎ (b ≡ true)
@@ -228,59 +135,17 @@ of_either Union a b has = or_cases a b has
 of_either Intersection a b has = inl ((and_parts a b has).0)
 of_either Difference a b has = inl ((and_parts a (not b) has).0)
 
-module _ (w : ℕ) (how : Combination) (end : ℕ) (s t r : FinSet nat_cmp) (done : CombinesBelow w how end s t r) where
-  -- if the other words stay, it is the combination everywhere
-  pub combines_all : LeavesFrom w how end s t → (i : ℕ) → contains r i ≡ combined how (contains s i) (contains t i)
-  combines_all leaves i = ⊎_elim
-      (λ below. done.inside i below)
-      (λ above. done.outside i above ∙ sym (leaves i above))
-      (cases_lt (i / w) end)
-
-  -- it ends where the first set and the words that were done end
-  pub combines_ends : (n : ℕ) → end ≤ n → EndsBefore w s n → EndsBefore w r n
-  combines_ends n le ends i has = ⊎_elim
-      (λ below. omega arith)
-      (λ above. ends i (sym (done.outside i above) ∙ has))
-      (cases_lt (i / w) end)
-
-  -- each member is a member of one of the two
-  combines_of : (i : ℕ) → contains r i ≡ true → (contains s i ≡ true) ⊎ (contains t i ≡ true)
-  combines_of i has = ⊎_elim
-      (λ below. of_either how (contains s i) (contains t i) (sym (done.inside i below) ∙ has))
-      (λ above. inl (sym (done.outside i above) ∙ has))
-      (cases_lt (i / w) end)
-
-  -- so no member is larger than theirs
-  pub combines_numbers : ((i : ℕ) → contains s i ≡ true → i ≤ 4294967295) → ((i : ℕ) → contains t i ≡ true → i ≤ 4294967295)
-      → (i : ℕ) → contains r i ≡ true → i ≤ 4294967295
-  combines_numbers first second i has = ⊎_elim (λ one. first i one) (λ other. second i other) (combines_of i has)
-
-  -- a word that was not done is as empty as before
-  word_kept : (k : ℕ) → end ≤ k → IsWordEmpty w r k ↔ IsWordEmpty w s k
-  word_kept k above = (
-    λ none i at. sym (done.outside i (omega arith)) ∙ none i at,
-    λ none i at. done.outside i (omega arith) ∙ none i at,
-  )
-
--- the marks are right if the words that were done are marked
-pub Summarizes-combined : (w : ℕ) (how : Combination) (done_end : ℕ) (words words' : Words) (marks marks' t : FinSet nat_cmp) (end end' : ℕ)
-    → Summarizes w words marks end → ((i : ℕ) → contains t i ≡ true → i ≤ 4294967295) → done_end ≤ words.count
-    → CombinesBelow w how done_end words.members t words'.members → words'.count ≡ words.count
-    → MarksBelow w words'.members done_end marks marks' → end' ≡ end → Summarizes w words' marks' end'
-Summarizes-combined w how done_end words words' marks marks' t end end' old small within done count marked same_end = record {
-  digits = λ k. ⊎_elim
-      (λ below. marked.inside k below)
-      (λ above.
-      let same = marked.outside k above in
-      let kept = word_kept w how done_end words.members t words'.members done k above in
-      (λ no. kept.1 ((old.digits k).0 (sym same ∙ no)), λ none. same ∙ (old.digits k).1 (kept.0 none)))
-      (cases_lt k done_end);
-  reach = omega (arith, old.reach);
-  ends = subst (EndsBefore w words'.members) (sym count)
-      (combines_ends w how done_end words.members t words'.members done words.count within old.ends);
-  numbers = combines_numbers w how done_end words.members t words'.members done old.numbers small;
-  few = omega (arith, old.few);
-}
+-- so no member is larger than theirs
+pub combined_small : (w : ℕ) (how : Combination) (k : ℕ) (s t r : FinSet nat_cmp) → CombinesWord w how k s t r
+    → ((i : ℕ) → contains s i ≡ true → i ≤ 4294967295) → ((i : ℕ) → contains t i ≡ true → i ≤ 4294967295)
+    → (i : ℕ) → contains r i ≡ true → i ≤ 4294967295
+combined_small w how k s t r word first second i has = ⊎_elim
+    (λ at. ⊎_elim
+    (λ one. first i one)
+    (λ other. second i other)
+    (of_either how (contains s i) (contains t i) (sym (word.here i at) ∙ has)))
+    (λ apart. first i (sym (word.elsewhere i apart) ∙ has))
+    (cases_eq (i / w) k)
 
 -- a word that has a member has a number that a set can hold
 pub filled_small : (w : ℕ) (s : FinSet nat_cmp) (k : ℕ) → 0 < w → ((i : ℕ) → contains s i ≡ true → i ≤ 4294967295)
@@ -292,6 +157,149 @@ filled_small w s k some small filled = ⊎_elim
     omega arith)))))
     (λ le. le)
     (cases_lt 4294967295 k)
+
+module _ (w : ℕ) (how : Combination) (k : ℕ) (words words' : Words) (marks marks' t : FinSet nat_cmp) (end end' : ℕ)
+    (old : Summarizes w words marks end) (word : CombinesWord w how k words.members t words'.members)
+    (small : (i : ℕ) → contains t i ≡ true → i ≤ 4294967295) (within : k < words.count) (count : words'.count ≡ words.count)
+    (same_end : end' ≡ end) where
+  -- the other words are as empty as before
+  word_kept : (q : ℕ) → q ≢ k → IsWordEmpty w words'.members q ↔ IsWordEmpty w words.members q
+  word_kept q apart = (
+    λ none i at. sym (word.elsewhere i (λ here. apart (sym at ∙ here))) ∙ none i at,
+    λ none i at. word.elsewhere i (λ here. apart (sym at ∙ here)) ∙ none i at,
+  )
+
+  -- word k alone is marked anew, as it should be
+  marked_word : ((q : ℕ) → q ≢ k → contains marks' q ≡ contains marks q)
+      → (contains marks' k ≡ false) ↔ IsWordEmpty w words'.members k → Summarizes w words' marks' end'
+  marked_word others here = record {
+    digits = λ q. ⊎_elim
+        (λ at. subst (λ q. (contains marks' q ≡ false) ↔ IsWordEmpty w words'.members q) (sym at) here)
+        (λ apart.
+        let same = others q apart in
+        let kept = word_kept q apart in
+        (λ no. kept.1 ((old.digits q).0 (sym same ∙ no)), λ none. same ∙ (old.digits q).1 (kept.0 none)))
+        (cases_eq q k);
+    reach = omega (arith, old.reach);
+    ends = λ i has. ⊎_elim
+        (λ at. omega arith)
+        (λ apart. let h = old.ends i (sym (word.elsewhere i apart) ∙ has) in omega arith)
+        (cases_eq (i / w) k);
+    numbers = combined_small w how k words.members t words'.members word old.numbers small;
+    few = omega (arith, old.few);
+  }
+
+  -- word k is empty now, and unmarked
+  pub Summarizes-combined_empty : marks' ≡ remove marks k → IsWordEmpty w words'.members k → Summarizes w words' marks' end'
+  Summarizes-combined_empty unmarked none = marked_word
+      (λ q apart. ap (λ s. contains s q) unmarked ∙ same_after_remove marks k q apart)
+      (λ _. none, λ _. ap (λ s. contains s k) unmarked ∙ gone_after_remove marks k)
+
+  -- word k has a member now, and is marked
+  pub Summarizes-combined_filled : marks' ≡ insert marks k → (IsWordEmpty w words'.members k → ⊥) → Summarizes w words' marks' end'
+  Summarizes-combined_filled marked filled = marked_word
+      (λ q apart. ap (λ s. contains s q) marked ∙ same_after_insert marks k q apart) (
+        λ no. absurd (let yes = ap (λ s. contains s k) marked ∙ there_after_insert marks k in cc),
+        λ none. absurd (filled none),
+      )
+
+-- ---- word after word
+
+-- r is, in the words below `next`, the combination of s and t; elsewhere it is s
+pub record CombinesBelow (w : ℕ) (how : Combination) (next : ℕ) (s t r : FinSet nat_cmp) : Type 0 where
+  pub inside : (i : ℕ) → i / w < next → contains r i ≡ combined how (contains s i) (contains t i)
+  pub outside : (i : ℕ) → next ≤ i / w → contains r i ≡ contains s i
+
+-- no word is done
+pub combines_none : (w : ℕ) (how : Combination) (s t : FinSet nat_cmp) → CombinesBelow w how 0 s t s
+combines_none w how s t = record { inside = λ i below. absurd (omega arith); outside = λ i _. refl }
+
+or_true : (a : Bool) → (a || true) ≡ true
+or_true true = refl
+or_true false = refl
+
+or_false : (a : Bool) → (a || false) ≡ a
+or_false true = refl
+or_false false = refl
+
+-- two sets with their marks
+module _ (w : ℕ) (words words' : Words) (marks marks' : FinSet nat_cmp) (end end' : ℕ)
+    (first : Summarizes w words marks end) (second : Summarizes w words' marks' end') where
+  -- a combination leaves a word that it can't change
+  stays : (how : Combination) (i : ℕ) → contains (words_to_combine how marks marks') (i / w) ≡ false
+      → combined how (contains words.members i) (contains words'.members i) ≡ contains words.members i
+  stays Union i unmarked =
+      let none = (second.digits (i / w)).0 unmarked i refl in
+      ap (λ b. contains words.members i || b) none ∙ or_false (contains words.members i)
+  stays Intersection i unmarked =
+      let none = (first.digits (i / w)).0 unmarked i refl in ap (λ a. a && contains words'.members i) none ∙ sym none
+  stays Difference i unmarked =
+      let none = (first.digits (i / w)).0 unmarked i refl in ap (λ a. a && not (contains words'.members i)) none ∙ sym none
+
+  -- there is a word for each that the combination can change
+  pub word_within : (how : Combination) → HasWordsFor w how words'.members words.count → (k : ℕ)
+      → contains (words_to_combine how marks marks') k ≡ true → k < words.count
+  word_within Union room k has = below_end w words' marks' end' second words.count room k has
+  word_within Intersection room k has = summary_within w words marks end first k has
+  word_within Difference room k has = summary_within w words marks end first k has
+
+  -- the first was s, and its words below `next` are done
+  module _ (how : Combination) (next : ℕ) (s : FinSet nat_cmp) (before : CombinesBelow w how next s words'.members words.members) where
+    -- a word from `next` on that the combination can't change is as it should be
+    passed : (i : ℕ) → next ≤ i / w → contains (words_to_combine how marks marks') (i / w) ≡ false
+        → contains words.members i ≡ combined how (contains s i) (contains words'.members i)
+    passed i above unmarked =
+        sym (stays how i unmarked) ∙ ap (λ a. combined how a (contains words'.members i)) (before.outside i above)
+
+    -- the next word that it can change is done
+    pub combines_more : (k : ℕ) (new : FinSet nat_cmp) → IsLeastFrom (words_to_combine how marks marks') next k
+        → CombinesWord w how k words.members words'.members new → CombinesBelow w how (k + 1) s words'.members new
+    combines_more k new least word = record {
+      inside = λ i below. ⊎_elim
+          (λ at. let up = least.from in
+          word.here i at ∙ ap (λ a. combined how a (contains words'.members i)) (before.outside i (omega arith)))
+          (λ apart. word.elsewhere i apart ∙ ⊎_elim
+          (λ done. before.inside i done)
+          (λ above. passed i above (false_from_ne_true (contains (words_to_combine how marks marks') (i / w)) (λ has.
+          let le = least.least (i / w) above has in absurd (omega arith))))
+          (cases_lt (i / w) next))
+          (cases_eq (i / w) k);
+      outside = λ i above.
+          let up = least.from in word.elsewhere i (λ at. absurd (omega arith)) ∙ before.outside i (omega arith);
+    }
+
+    -- no word is left
+    pub combines_all : NoneFrom (words_to_combine how marks marks') next → (i : ℕ)
+        → contains words.members i ≡ combined how (contains s i) (contains words'.members i)
+    combines_all none i = ⊎_elim
+        (λ done. before.inside i done)
+        (λ above. passed i above (none (i / w) above))
+        (cases_lt (i / w) next)
+
+-- s became old in the words below `next`, and old becomes new in word k
+module _ (w : ℕ) (how : Combination) (next k : ℕ) (s t old new : FinSet nat_cmp) (up : next ≤ k)
+    (before : CombinesBelow w how next s t old) (word : CombinesWord w how k old t new) where
+  -- whether the set is another one since the first word
+  tells_more : (a b : Bool) → TellsChange a s old → TellsChange b old new → TellsChange (a || b) s new
+  tells_more true b first second =
+      let i = first.0 in (
+        i,
+        ⊎_elim
+            (λ done. word.elsewhere i (λ at. absurd (omega arith)) ∙ first.1)
+            (λ above. absurd (not_its_negation (contains s i) (sym (before.outside i above) ∙ first.1)))
+            (cases_lt (i / w) next),
+      )
+  tells_more false b first second = subst (λ (r : FinSet nat_cmp). TellsChange b r new) first second
+
+  -- the word changed, or it didn't
+  pub tells_changed : (a b c : Bool) → b ≡ true → c ≡ true → TellsChange a s old → TellsChange b old new → TellsChange c s new
+  tells_changed a b c one is first second =
+      subst (λ (r : Bool). TellsChange r s new) (ap (λ r. a || r) one ∙ or_true a ∙ sym is) (tells_more a b first second)
+
+  -- the word stayed as it was, so the result stays too
+  pub tells_unchanged : (a b c : Bool) → b ≡ false → c ≡ a → TellsChange a s old → TellsChange b old new → TellsChange c s new
+  tells_unchanged a b c none is first second =
+      subst (λ (r : Bool). TellsChange r s new) (ap (λ r. a || r) none ∙ or_false a ∙ sym is) (tells_more a b first second)
 
 -- ---- what the calls return
 
@@ -314,36 +322,39 @@ pub greatest_is_one : (s : FinSet nat_cmp) (x y : ℕ) → IsGreatest s x → Is
 greatest_is_one s x y one other =
     let le : x ≤ y = other.greatest x one.member in let ge : y ≤ x = one.greatest y other.member in omega arith
 
--- if the last of the first n words has a member, and the greatest member is below the capacity, there are n words
-pub in_use_within : (w : ℕ) (s : FinSet nat_cmp) (n count m : ℕ) → 0 < w → IsGreatest s m → m < count * w
-    → ((k : ℕ) → k + 1 ≡ n → IsWordEmpty w s k → ⊥) → n ≤ count
-in_use_within w s n count m some greatest below last = ⊎_elim
-    (λ more.
-    let word : m / w < count = div_below m w count some below in
-    absurd (last (n - 1) (omega arith) (λ i at. false_from_ne_true (contains s i) (λ has.
-    let le : i ≤ m = greatest.greatest i has in
-    let up : i / w ≤ m / w = div_mono w i m some le in
-    absurd (omega arith)))))
-    (λ within. within)
-    (cases_lt count n)
+module _ (w : ℕ) (words : Words) (marks : FinSet nat_cmp) (end : ℕ) (sum : Summarizes w words marks end) where
+  -- if the combination has no member of the set, it has none in a marked word
+  pub keeps_none_of_word : (how : Combination) (t : FinSet nat_cmp) → KeepsNone how words.members t → (k : ℕ)
+      → contains marks k ≡ true → CombinesToNone w how k words.members t
+  keeps_none_of_word Union t none k marked i at = absurd (no_empty_word w words marks end sum k marked (λ q _.
+      false_from_ne_true (contains words.members q) (λ has. absurd (
+      let no = ap (λ a. a || contains t q) (sym has) ∙ none q has in cc))))
+  keeps_none_of_word Intersection t none k marked i at = ⊎_elim
+      (λ has. none i has)
+      (λ no. ap (λ a. a && contains t i) no)
+      (cases_Bool (contains words.members i))
+  keeps_none_of_word Difference t none k marked i at = ⊎_elim
+      (λ has. none i has)
+      (λ no. ap (λ a. a && not (contains t i)) no)
+      (cases_Bool (contains words.members i))
 
--- no member, no word in use
-pub in_use_none : (w : ℕ) (s : FinSet nat_cmp) (n count : ℕ) → s ≡ empty
-    → ((k : ℕ) → k + 1 ≡ n → IsWordEmpty w s k → ⊥) → n ≤ count
-in_use_none w s n count none last = ⊎_elim
-    (λ more. absurd (last (n - 1) (omega arith) (λ i _. none_in_empty s none i)))
-    (λ within. within)
-    (cases_lt count n)
+  -- if it has none in the marked words, of which none is left, it has no member of the set
+  pub keeps_none_by_marks : (how : Combination) (t : FinSet nat_cmp) (next : ℕ) → NoneFrom marks next
+      → HoldsMarked w marks next (λ i. combined how (contains words.members i) (contains t i) ≡ false) → KeepsNone how words.members t
+  keeps_none_by_marks how t next none holds i has =
+      let marked = filled w words marks end sum i has in
+      ⊎_elim
+      (λ done. holds i marked done)
+      (λ above. absurd (let no = none (i / w) above in cc))
+      (cases_lt (i / w) next)
 
 -- the test of a subset
-pub subset_from_test : (w : ℕ) (s t : FinSet nat_cmp) (end : ℕ) (r : Bool) → EndsBefore w s end
-    → (IsTrue r ↔ CombinesToNone w Difference end s t) → r ≡ is_subset s t
-subset_from_test w s t end r ends test = same_from_parts r (is_subset s t)
+pub subset_from_test : (s t : FinSet nat_cmp) (r : Bool) → (IsTrue r ↔ KeepsNone Difference s t) → r ≡ is_subset s t
+subset_from_test s t r test = same_from_parts r (is_subset s t)
     (λ holds. contains-is_subset nat_cmp_total s t (λ i has.
-    let none = test.0 holds i (ends i has) in
-    let other : not (contains t i) ≡ false = ap (λ a. a && not (contains t i)) (sym has) ∙ none in
+    let other : not (contains t i) ≡ false = ap (λ a. a && not (contains t i)) (sym has) ∙ test.0 holds i has in
     in_other (contains t i) other))
-    (λ subset. test.1 (λ i below. by_case (contains s i) (contains t i) (is_subset-contains nat_cmp_total s t subset i)))
+    (λ subset. test.1 (λ i _. by_case (contains s i) (contains t i) (is_subset-contains nat_cmp_total s t subset i)))
   where
     in_other : (b : Bool) → not b ≡ false → b ≡ true
     in_other true _ = refl
@@ -359,15 +370,11 @@ subset_from_test w s t end r ends test = same_from_parts r (is_subset s t)
     same_from_parts false false one other = refl
 
 -- the test of two sets with nothing in common
-pub disjoint_from_test : (w : ℕ) (s t : FinSet nat_cmp) (m n end : ℕ) (r : Bool) → EndsBefore w s m → EndsBefore w t n → end ≡ min m n
-    → (IsTrue r ↔ CombinesToNone w Intersection end s t) → IsTrue r ↔ (intersection s t ≡ empty)
-disjoint_from_test w s t m n end r first second is test = (
+pub disjoint_from_test : (s t : FinSet nat_cmp) (r : Bool) → (IsTrue r ↔ KeepsNone Intersection s t)
+    → IsTrue r ↔ (intersection s t ≡ empty)
+disjoint_from_test s t r test = (
   λ holds. empty_of_none (intersection s t) (λ i. contains-intersection nat_cmp_total s t i
       ∙ false_from_ne_true (contains s i && contains t i) (λ both.
-      let parts = and_parts (contains s i) (contains t i) both in
-      let one = first i parts.0 in
-      let other = second i parts.1 in
-      let none = test.0 holds i (omega arith) in
-      both_ways _ none both)),
-  λ none. test.1 (λ i below. sym (contains-intersection nat_cmp_total s t i) ∙ none_in_empty (intersection s t) none i),
+      let none = test.0 holds i ((and_parts (contains s i) (contains t i) both).0) in both_ways _ none both)),
+  λ none. test.1 (λ i _. sym (contains-intersection nat_cmp_total s t i) ∙ none_in_empty (intersection s t) none i),
 )

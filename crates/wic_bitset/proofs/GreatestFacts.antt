@@ -25,7 +25,11 @@ pub max-below : (w count : ℕ) (s : FinSet nat_cmp) (r : Option ℕ) → 0 < w 
 max-below w count s None some ends none = tt
 max-below w count s (Some x) some ends last = (div-lt_iff_lt-mul some).0 (ends x last.member)
 
--- the same, by a test that is true if there is none
+-- if it stands in one of the first `count` words, so does each member
+pub ends-within : (w count : ℕ) (s : FinSet nat_cmp) (m : ℕ) → 0 < w → IsGreatest s m → m < count * w → EndsBefore w s count
+ends-within w count s m some last below i has = (div-lt_iff_lt-mul some).1 (let le = last.greatest i has in omega arith)
+
+-- the same as the first, by a test that is true if there is none
 pub max-none_test : (s : FinSet nat_cmp) (r : Option ℕ) (b : Bool) → IsMax s r → is_some r ≡ not b → IsTrue b ↔ (s ≡ empty)
 max-none_test s None true none test = (λ _. none, λ _. refl)
 max-none_test s None false none test = absurd (cc)

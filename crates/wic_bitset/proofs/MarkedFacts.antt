@@ -43,3 +43,9 @@ module _ (w : ℕ) (words : Words) (marks : FinSet nat_cmp) (end : ℕ) (m : Sum
   min_by_marks some i k (Some x) before least found =
       let up = least.from in
       least_from-next w words.members i k x some (omega arith) (none_until-marks i k before least) found
+
+-- ---- marked words read one after the other
+
+-- P holds of each number of the marked words below word `next`
+abbrev pub HoldsMarked : ℕ → FinSet nat_cmp → ℕ → (ℕ → Type 0) → Type 0
+HoldsMarked w marks next P = (i : ℕ) → contains marks (i / w) ≡ true → i / w < next → P i

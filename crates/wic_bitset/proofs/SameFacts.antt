@@ -1,5 +1,5 @@
 -- Two sets compared word by word.
-use Rattle.std.proofs.Common.{⊎_elim, ◌≡◌, ℕ, ◌+◌, ◌*◌, ◌/◌, ◌%◌, ◌<◌, Bool, true, sym, ap, ◌∙◌}
+use Rattle.std.proofs.Common.{⊎_elim, ◌≡◌, ℕ, ◌+◌, ◌*◌, ◌/◌, ◌%◌, ◌<◌, Bool, sym, ap, ◌∙◌}
 use Rattle.std.proofs.Common.{arith, IsTrue, ◌↔◌, max, refl}
 use Rattle.std.specs.Ordering.{nat_cmp}
 use Rattle.std.specs.Cmp.{nat_cmp_total}
@@ -9,9 +9,10 @@ use Rattle.std.proofs.lemmas.Nat.{div-mul-add}
 use Rattle.wic_scalar.specs.Scalar.{set_of}
 use Rattle.wic_scalar.proofs.MemberFacts.{contains_below}
 use Rattle.wic_scalar.proofs.CallFacts.{set_of-same}
-use Rattle.wic_bitset.specs.From.{IsLeastFrom, NoneFrom}
+use Rattle.wic_bitset.specs.From.{NoneFrom}
 use Rattle.wic_bitset.specs.Summary.{filled_words, Summarizes}
 use Rattle.wic_bitset.specs.Words.{Words, EndsBefore, IsWordOf, SameWord, SameWordsBelow}
+use Rattle.wic_bitset.proofs.MarkedFacts.{HoldsMarked}
 use Rattle.wic_bitset.proofs.SummaryFacts.{summary_is_filled_words}
 use Rattle.wic_bitset.proofs.WordFacts.{by_digit}
 
@@ -32,18 +33,6 @@ same_words_more w k s t word before i below = ⊎_elim
     (λ apart. before i (omega arith))
     (cases_eq (i / w) k)
 
--- the two sets have the same members in the marked words below word `next`
-abbrev pub SameMarked : ℕ → FinSet nat_cmp → ℕ → FinSet nat_cmp → FinSet nat_cmp → Type 0
-SameMarked w marks next s t = (i : ℕ) → contains marks (i / w) ≡ true → i / w < next → contains s i ≡ contains t i
-
--- one more marked word
-pub same_marked-more : (w next k : ℕ) (marks s t : FinSet nat_cmp) → IsLeastFrom marks next k → SameWord w k s t
-    → SameMarked w marks next s t → SameMarked w marks (k + 1) s t
-same_marked-more w next k marks s t least word before i marked below = ⊎_elim
-    (λ inside. before i marked inside)
-    (λ above. let le = least.least (i / w) above marked in word i (omega arith))
-    (cases_lt (i / w) next)
-
 -- sets that have the same members in all words
 pub same_words_all : (w m n : ℕ) (s t : FinSet nat_cmp) → EndsBefore w s m → EndsBefore w t n → SameWordsBelow w (max m n) s t → s ≡ t
 same_words_all w m n s t first second same = same_set nat_cmp_total nat_cmp-IsAntisymmetric _ _ (λ i. ⊎_elim
@@ -62,7 +51,8 @@ module _ (w : ℕ) (words words' : Words) (marks marks' : FinSet nat_cmp) (end e
       ∙ sym (summary_is_filled_words w words' marks' end' second)
 
   -- sets with the same marks are equal if they have the same members in the marked words, of which none is left
-  pub same_by_marks : (next : ℕ) → marks ≡ marks' → NoneFrom marks next → SameMarked w marks next words.members words'.members
+  pub same_by_marks : (next : ℕ) → marks ≡ marks' → NoneFrom marks next
+      → HoldsMarked w marks next (λ q. contains words.members q ≡ contains words'.members q)
       → words.members ≡ words'.members
   same_by_marks next equal none same = same_set nat_cmp_total nat_cmp-IsAntisymmetric _ _ (λ q. ⊎_elim
       (λ marked. ⊎_elim

@@ -1,8 +1,8 @@
 -- Two sets, a word at a time.
-use Rattle.std.specs.Prelude.{◌≡◌, ◌≢◌, ◌↔◌, ℕ, ◌/◌, ◌<◌, ◌≤◌, Bool, true, false, not, ◌&&◌, ◌||◌}
+use Rattle.std.specs.Prelude.{◌≡◌, ◌≢◌, ℕ, ◌/◌, Bool, true, false, not, ◌&&◌, ◌||◌}
 use Rattle.std.specs.Ordering.{nat_cmp}
 use Rattle.std.specs.FinSet.{FinSet, contains}
-use Rattle.wic_bitset.specs.Words.{IsWordEmpty}
+use Rattle.wic_bitset.specs.Words.{EndsBefore}
 use Rattle.wic_bitset.specs.declared.combination.Combination.{Combination}
 use Rattle.wic_bitset.specs.declared.combination.Combination.TheVariants.{Union, Intersection, Difference}
 
@@ -22,20 +22,22 @@ pub record CombinesWord (w : ℕ) (how : Combination) (k : ℕ) (s t r : FinSet 
   pub here : (i : ℕ) → i / w ≡ k → contains r i ≡ combined how (contains s i) (contains t i)
   pub elsewhere : (i : ℕ) → i / w ≢ k → contains r i ≡ contains s i
 
--- r is, in the words below `end`, the combination of s and t; elsewhere it is s
-pub record CombinesBelow (w : ℕ) (how : Combination) (end : ℕ) (s t r : FinSet nat_cmp) : Type 0 where
-  pub inside : (i : ℕ) → i / w < end → contains r i ≡ combined how (contains s i) (contains t i)
-  pub outside : (i : ℕ) → end ≤ i / w → contains r i ≡ contains s i
-
--- the combination of s and t has no member in the words below `end`
+-- the combination of s and t has no member in word k
 abbrev pub CombinesToNone : ℕ → Combination → ℕ → FinSet nat_cmp → FinSet nat_cmp → Type 0
-CombinesToNone w how end s t = (i : ℕ) → i / w < end → combined how (contains s i) (contains t i) ≡ false
+CombinesToNone w how k s t = (i : ℕ) → i / w ≡ k → combined how (contains s i) (contains t i) ≡ false
 
--- the combination of s and t is s in the words from `end` on
-abbrev pub LeavesFrom : ℕ → Combination → ℕ → FinSet nat_cmp → FinSet nat_cmp → Type 0
-LeavesFrom w how end s t = (i : ℕ) → end ≤ i / w → combined how (contains s i) (contains t i) ≡ contains s i
+-- the combination of s and t has no member of s
+abbrev pub KeepsNone : Combination → FinSet nat_cmp → FinSet nat_cmp → Type 0
+KeepsNone how s t = (i : ℕ) → contains s i ≡ true → combined how (contains s i) (contains t i) ≡ false
 
--- of the words below `end`, `marks` has just those that have a member; of the others it has those of `old`
-pub record MarksBelow (w : ℕ) (words : FinSet nat_cmp) (end : ℕ) (old marks : FinSet nat_cmp) : Type 0 where
-  pub inside : (k : ℕ) → k < end → (contains marks k ≡ false) ↔ IsWordEmpty w words k
-  pub outside : (k : ℕ) → end ≤ k → contains marks k ≡ contains old k
+-- the words that a combination can change, by the words that have a member in the one set and in the other
+abbrev pub words_to_combine : Combination → FinSet nat_cmp → FinSet nat_cmp → FinSet nat_cmp
+words_to_combine Union marks other = other
+words_to_combine Intersection marks other = marks
+words_to_combine Difference marks other = marks
+
+-- there is a word below `count` for each member of t that the combination puts in
+abbrev pub HasWordsFor : ℕ → Combination → FinSet nat_cmp → ℕ → Type 0
+HasWordsFor w Union t count = EndsBefore w t count
+HasWordsFor w Intersection t count = Unit {0}
+HasWordsFor w Difference t count = Unit {0}

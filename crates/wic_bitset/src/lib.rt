@@ -36,7 +36,8 @@
 //! | `remove`, `pop` | constant, and a few steps per level if a word becomes empty or the maximum goes |
 //! | `iter`, `len`, `hash`, `clear`, `==` | each word that has a member, and a few steps per level for it |
 //! | `members` | each summary word and each word that has a member, at most once: this is a clause |
-//! | `union_with`, `intersect_with`, `subtract`, `is_subset`, `is_disjoint` | the words up to that of a maximum |
+//! | `intersect_with`, `subtract`, `is_subset`, `is_disjoint` | each word here that has a member, and a few steps per level for it |
+//! | `union_with` | each word of the other that has a member, and a few steps per level for it; growths as for `insert` |
 //! | `iter_scalars`, `try_clone` | the words |
 //!
 //! No clause says how many words of the summary a call reads, but for `members`. The last level is read word by word. With

@@ -2,11 +2,12 @@
 //! set with its summary, and each level of the summary with the one above it.
 ghost use Rattle.std.specs.Prelude.{◌≡◌, ◌↔◌, ◌*◌, ◌<◌, ◌≤◌, ℕ, not, true, IsTrue};
 ghost use Rattle.std.specs.FinSet as fin_set;
-ghost use Rattle.wic_bitset.specs.Combination.{MarksBelow};
+ghost use Rattle.wic_bitset.specs.Combination.{combined, words_to_combine, CombinesWord, HasWordsFor, KeepsNone, TellsChange};
 ghost use Rattle.wic_bitset.specs.From.{IsMinFrom};
 ghost use Rattle.wic_bitset.specs.Greatest.{IsMax};
 ghost use Rattle.wic_bitset.specs.Summary.{Summarizes};
 
+use crate::combination::Combination;
 use crate::number_set::NumberSet;
 use crate::store::Store;
 use crate::word::least_in_word;
@@ -141,20 +142,102 @@ pub fn same_marked<T: ScalarBitSetStorage, S: NumberSet>(
     true
 }
 
-/// Makes `marks` have of the first `end` numbers just those whose word in `words` has a member.
-pub fn mark_below<T: ScalarBitSetStorage, S: NumberSet>(words: &Store<T>, marks: &mut S, end: usize)
-    requires within { end ≤ S.end marks.old }
-    requires numbers { (i : ℕ) → fin_set.contains words.now.members i ≡ true → i ≤ 4294967295 }
-    ensures marks { MarksBelow T.width words.now.members end (S.members marks.old)
-        (S.members marks.new) }
-    ensures end { S.end marks.new ≡ S.end marks.old }
-    ensures room { S.room marks.new ≡ S.room marks.old }
+/// Makes of word `k` what `how` makes of it and of that of `other`, and puts `k` into `marks`, or takes it out if the word is empty
+/// then. Returns whether a member came or went.
+pub fn combine_marked_word<T: ScalarBitSetStorage, S: NumberSet>(
+    words: &mut Store<T>,
+    marks: &mut S,
+    other: &Store<T>,
+    how: Combination,
+    k: usize,
+) -> bool
+    requires marks { Summarizes T.width words.old (S.members marks.old) (S.end marks.old) }
+    requires within { k < words.old.count }
+    requires numbers { (i : ℕ) → fin_set.contains other.now.members i ≡ true → i ≤ 4294967295 }
+    ensures members { CombinesWord T.width how k
+        words.old.members other.now.members words.new.members }
+    ensures changed { TellsChange result words.old.members words.new.members }
+    ensures count { words.new.count ≡ words.old.count }
+    ensures room { words.new.room ≡ words.old.room }
+    ensures marks_room { S.room marks.new ≡ S.room marks.old }
+    ensures marks { Summarizes T.width words.new (S.members marks.new) (S.end marks.new) }
 {
-    for k in 0..end {
-        if words.is_word_empty(k) {
-            marks.remove(k);
-        } else {
-            marks.insert(k);
-        }
+    let changed = words.combine_word(other, how, k);
+    if words.is_word_empty(k) {
+        marks.remove(k);
+    } else {
+        marks.insert(k);
     }
+    changed
+}
+
+/// Makes of `words` what `how` makes of it and of `other`, and returns whether a member came or went. A union goes over the words
+/// that `other_marks` has, the others over those that `marks` has.
+pub fn combine_marked<T: ScalarBitSetStorage, S: NumberSet>(
+    words: &mut Store<T>,
+    marks: &mut S,
+    other: &Store<T>,
+    other_marks: &S,
+    how: Combination,
+) -> bool
+    requires marks { Summarizes T.width words.old (S.members marks.old) (S.end marks.old) }
+    requires other_marks { Summarizes T.width other.now (S.members other_marks.now)
+        (S.end other_marks.now) }
+    requires within { HasWordsFor T.width how other.now.members words.old.count }
+    ensures members { (i : ℕ) → fin_set.contains words.new.members i
+        ≡ combined how (fin_set.contains words.old.members i)
+        (fin_set.contains other.now.members i) }
+    ensures changed { TellsChange result words.old.members words.new.members }
+    ensures count { words.new.count ≡ words.old.count }
+    ensures room { words.new.room ≡ words.old.room }
+    ensures marks_room { S.room marks.new ≡ S.room marks.old }
+    ensures marks { Summarizes T.width words.new (S.members marks.new) (S.end marks.new) }
+{
+    let mut changed = false;
+    let mut next = 0;
+    while let Some(k) = next_to_combine(marks, other_marks, how, next) {
+        if combine_marked_word(words, marks, other, how, k) {
+            changed = true;
+        }
+        next = k + 1;
+    }
+    changed
+}
+
+// The next word from `next` on that `how` can change.
+#[inline]
+fn next_to_combine<S: NumberSet>(
+    marks: &S,
+    other_marks: &S,
+    how: Combination,
+    next: usize,
+) -> Option<usize>
+    ensures { IsMinFrom (words_to_combine how (S.members marks.now) (S.members other_marks.now))
+        next result }
+{
+    match how {
+        Combination::Union => other_marks.least_from(next),
+        Combination::Intersection => marks.least_from(next),
+        Combination::Difference => marks.least_from(next),
+    }
+}
+
+/// Whether what `how` makes of `words` and `other` has no member of `words`. It goes over the words that `marks` has.
+pub fn keeps_none_marked<T: ScalarBitSetStorage, S: NumberSet>(
+    words: &Store<T>,
+    marks: &S,
+    other: &Store<T>,
+    how: Combination,
+) -> bool
+    requires { Summarizes T.width words.now (S.members marks.now) (S.end marks.now) }
+    ensures { IsTrue result ↔ KeepsNone how words.now.members other.now.members }
+{
+    let mut next = 0;
+    while let Some(k) = marks.least_from(next) {
+        if !words.combines_to_none(other, how, k) {
+            return false;
+        }
+        next = k + 1;
+    }
+    true
 }

@@ -3,7 +3,7 @@
 ghost use Rattle.std.specs.Prelude.{◌≡◌, ◌+◌, ◌*◌, ◌<◌, ◌≤◌, ◌↔◌, ◌++◌, ℕ, not, true, length, map};
 ghost use Rattle.std.specs.Prelude.{IsTrue, IsOk, OnOk, OnErr, IfOk};
 ghost use Rattle.std.specs.FinSet as fin_set;
-ghost use Rattle.wic_bitset.specs.Combination.{CombinesBelow, CombinesToNone, CombinesWord, TellsChange};
+ghost use Rattle.wic_bitset.specs.Combination.{CombinesToNone, CombinesWord, TellsChange};
 ghost use Rattle.wic_bitset.specs.Greatest.{IsMax};
 ghost use Rattle.wic_bitset.specs.Rising.{word_members};
 ghost use Rattle.wic_bitset.specs.Words.{most_words, greatest_start, AreFirstWords, EmptiesWord, EndsBefore, IsMaxOfWord};
@@ -188,27 +188,9 @@ impl<T: ScalarBitSetStorage> Store<T> {
         }
     }
 
-    /// Makes of each of the first `end` words what `how` makes of it and of that of `other`, and returns whether a member came or
-    /// went. A word that `other` hasn't is empty.
-    pub fn combine(&mut self, other: &Store<T>, how: Combination, end: usize) -> bool
-        requires { end ≤ self.old.count }
-        ensures members { CombinesBelow T.width how end
-            self.old.members other.now.members self.new.members }
-        ensures changed { TellsChange result self.old.members self.new.members }
-        ensures count { self.new.count ≡ self.old.count }
-        ensures room { self.new.room ≡ self.old.room }
-    {
-        let mut changed = false;
-        for k in 0..end {
-            if self.combine_word(other, how, k) {
-                changed = true;
-            }
-        }
-        changed
-    }
-
-    // Makes of word `k` what `how` makes of it and of that of `other`, and returns whether a member came or went.
-    fn combine_word(&mut self, other: &Store<T>, how: Combination, k: usize) -> bool
+    /// Makes of word `k` what `how` makes of it and of that of `other`, and returns whether a member came or went. A word that
+    /// `other` hasn't is empty.
+    pub fn combine_word(&mut self, other: &Store<T>, how: Combination, k: usize) -> bool
         requires { k < self.old.count }
         ensures members { CombinesWord T.width how k
             self.old.members other.now.members self.new.members }
@@ -242,18 +224,12 @@ impl<T: ScalarBitSetStorage> Store<T> {
         true
     }
 
-    /// Whether what `how` makes of the first `end` words and of those of `other` has no member.
-    pub fn combines_to_none(&self, other: &Store<T>, how: Combination, end: usize) -> bool
-        ensures { IsTrue result
-            ↔ CombinesToNone T.width how end self.now.members other.now.members }
+    /// Whether what `how` makes of word `k` and of that of `other` has no member. A word that isn't there is empty.
+    pub fn combines_to_none(&self, other: &Store<T>, how: Combination, k: usize) -> bool
+        ensures { IsTrue result ↔ CombinesToNone T.width how k self.now.members other.now.members }
     {
-        for k in 0..end {
-            let word = how.of_words(self.word_or_empty(k), other.word_or_empty(k));
-            if !word.is_empty() {
-                return false;
-            }
-        }
-        true
+        how.of_words(self.word_or_empty(k), other.word_or_empty(k))
+            .is_empty()
     }
 
     /// The greatest member in word `k`, or `None` if it is empty.

@@ -1,25 +1,25 @@
-use Rattle.std.proofs.Common.{◌≡◌, ◌≤◌, ◌/◌, ◌||◌, ap, sym, subst, ◌∙◌, arith}
+use Rattle.std.proofs.Common.{◌≡◌, ◌/◌, ◌||◌, ap, sym, subst, ◌∙◌, arith}
 use Rattle.std.specs.FinSet.{contains}
 use Rattle.wic_bitset.specs.Greatest.{IsMax}
 use Rattle.wic_bitset.specs.Growth.{count_after}
-use Rattle.wic_bitset.proofs.CombinationFacts.{greatest_is_one, in_use_within, in_use_none, union_is}
+use Rattle.wic_bitset.proofs.CombinationFacts.{greatest_is_one, union_is}
+use Rattle.wic_bitset.specs.Words.{EndsBefore}
 use Rattle.wic_base.proofs.SetFacts.{none_in_empty}
+use Rattle.wic_bitset.proofs.GreatestFacts.{ends-empty, ends-within}
 use Rattle.wic_bitset.proofs.set.CompoundBitSet.union_with.Goals as goal
 use Rattle.wic_bitset.proofs.set.CompoundBitSet.union_with.Goals.{in-Some+in_ok-make_room_for, in_default}
 
-pub combine-requires-clause-within : goal.combine-requires-clause-within
-combine-requires-clause-within g c =
+pub combine-requires : goal.combine-requires
+combine-requires g c =
     let w = g.T.ScalarBitSetStorage.width in
-    let some = g.T.ScalarBitSetStorage.width_within.positive in
     let other = c.args.other.now.members in
-    let last = c.words_in_use.ensures.last in
     let max = subst (λ v. IsMax v.members c.other.inside.max) c.other.view_is c.other.invariant.1 in
     elim c.match-other.branch [
       | in-Some+in_ok-make_room_for b ↦ let room = b.in_ok-make_room_for.ensures.room in
-          subst (λ v. c.words_in_use.result ≤ v.words) (sym b.self-is)
-          (in_use_within w other c.words_in_use.result b.make_room_for.new.self.words b.in-Some.max some
-          (subst (IsMax other) b.in-Some.is max) (omega (arith, room)) last)
-      | in_default b ↦ in_use_none w other c.words_in_use.result c.match-other.self.words (subst (IsMax other) b.in_default.is max) last
+          subst (λ v. EndsBefore w other v.words) (sym b.self-is)
+          (ends-within w b.make_room_for.new.self.words other b.in-Some.max g.T.ScalarBitSetStorage.width_within.positive
+          (subst (IsMax other) b.in-Some.is max) (omega (arith, room)))
+      | in_default b ↦ λ i has. absurd (let h = ends-empty w other (subst (IsMax other) b.in_default.is max) i has in omega arith)
     ]
 
 pub returns-clause-members : goal.returns-clause-members
