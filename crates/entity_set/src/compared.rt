@@ -10,8 +10,8 @@ use crate::entity::EntityRef;
 use crate::set::EntitySet;
 use std::hash::{Hash, Hasher};
 
-/// Two sets are equal exactly if they have the same keys, whatever room they have. It compares the summary words up to that of
-/// the greatest key, and then each word that has a key.
+/// Two sets are equal exactly if they have the same keys, whatever room they have. It compares which words have a key, and then
+/// each of these words.
 impl<K: EntityRef> PartialEq for EntitySet<K> {
     ghost eq = { λ s t. pointwise nat_eq (rising s.members) (rising t.members) };
 

@@ -20,7 +20,7 @@
 //!
 //! # What it doesn't protect against
 //!
-//! A set grows to its greatest number: a key with the number 4294967295 takes 520 MB. So number entities from 0 on, and check
+//! A set grows to its greatest number: a key with the number 4294967295 takes 520 MiB. So number entities from 0 on, and check
 //! numbers from untrusted callers before you make keys of them. Sets of the blocks of two functions have one type: nothing
 //! keeps the keys of one function out of the sets of the other.
 //!
@@ -29,13 +29,14 @@
 //! | call | time |
 //! |---|---|
 //! | `contains`, `is_empty`, `capacity` | constant |
-//! | `insert` | constant, but for growth, which copies no more words in all than there are in the end |
-//! | `remove`, `pop` | constant; if the greatest key goes, the summary words down to that of the next one |
-//! | `keys`, `len`, `hash`, `clear`, `==` | the summary words up to that of the greatest key, and each word that has a key |
-//! | `union_with`, `intersect_with`, `subtract`, `is_subset`, `is_disjoint` | the words up to that of a greatest key |
+//! | `insert` | constant, or a few steps into an empty word; growths copy no more words in all than there are in the end |
+//! | `remove`, `pop` | constant, and a few steps if a word becomes empty or the greatest key goes |
+//! | `keys`, `len`, `hash`, `clear`, `==` | each word that has a key, and a few steps for it |
+//! | `intersect_with`, `subtract`, `is_subset`, `is_disjoint` | each word here that has a key, and a few steps for it |
+//! | `union_with` | each word of the other that has a key, and a few steps for it; growths as for `insert` |
 //! | `try_clone` | the words |
 //!
-//! A word has 64 keys, and a summary word stands for 64 words.
+//! A word has 64 keys. A few steps are at most two words in each of five levels; no clause says how many.
 #![tactic(auto)]
 
 #[cfg(test)]

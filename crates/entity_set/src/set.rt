@@ -113,8 +113,7 @@ impl<K: EntityRef> EntitySet<K> {
         self.bits.insert(number)
     }
 
-    /// Takes `k` out, and returns whether it was there. If it has the greatest number, the summary words are read down to that
-    /// of the next key.
+    /// Takes `k` out, and returns whether it was there. It takes a few steps, however far apart the keys are.
     pub fn remove(&mut self, k: K) -> bool
         ensures present { result ≡ fin_set.contains self.old.members (K.number k) }
         ensures members { self.new.members ≡ fin_set.remove self.old.members (K.number k) }
@@ -160,8 +159,7 @@ impl<K: EntityRef> EntitySet<K> {
         self.bits.clear();
     }
 
-    /// The keys, each once, by ascending number. A walk reads the summary words up to that of the greatest key, and each word
-    /// that has a key once.
+    /// The keys, each once, by ascending number. A walk reads each word that has a key once, and takes a few steps to the next.
     pub fn keys(&self) -> Keys<'_, K>
         ensures members { result ≡ rising self.now.members }
         ensures each { fin_set.from_list result ≡ self.now.members }
@@ -185,8 +183,7 @@ impl<K: EntityRef> EntitySet<K> {
     }
 
     /// Puts the keys of `other` in, and returns whether one of them is new. It is refused only if the number of a key of `other`
-    /// is at the capacity or above, and then the set is as before. It reads the words of both up to that of the greatest key
-    /// of `other`.
+    /// is at the capacity or above, and then the set is as before. It visits each word of `other` that has a key.
     pub fn union_with(&mut self, other: &EntitySet<K>) -> Result<bool, OutOfMemory>
         ensures members { OnOk result
             (self.new.members ≡ fin_set.union self.old.members other.now.members) }
@@ -200,8 +197,7 @@ impl<K: EntityRef> EntitySet<K> {
         self.bits.union_with(&other.bits)
     }
 
-    /// Takes the keys out that `other` hasn't, and returns whether there was one. It reads the words of both up to that of the
-    /// greatest key.
+    /// Takes the keys out that `other` hasn't, and returns whether there was one. It visits each word here that has a key.
     pub fn intersect_with(&mut self, other: &EntitySet<K>) -> bool
         ensures members { self.new.members
             ≡ fin_set.intersection self.old.members other.now.members }
@@ -210,8 +206,7 @@ impl<K: EntityRef> EntitySet<K> {
         self.bits.intersect_with(&other.bits)
     }
 
-    /// Takes the keys out that `other` has, and returns whether there was one. It reads the words of both up to that of the
-    /// lesser of their greatest keys.
+    /// Takes the keys out that `other` has, and returns whether there was one. It visits each word here that has a key.
     pub fn subtract(&mut self, other: &EntitySet<K>) -> bool
         ensures members { self.new.members ≡ fin_set.difference self.old.members other.now.members }
         ensures takes_out { TakesOut self.old self.new result }
@@ -219,16 +214,14 @@ impl<K: EntityRef> EntitySet<K> {
         self.bits.subtract(&other.bits)
     }
 
-    /// Whether `other` has all keys. It reads the words of both up to that of the greatest key, or of the first key that `other`
-    /// lacks.
+    /// Whether `other` has all keys. It visits each word here that has a key, up to that of the first key that `other` lacks.
     pub fn is_subset(&self, other: &EntitySet<K>) -> bool
         ensures { result ≡ fin_set.is_subset self.now.members other.now.members }
     {
         self.bits.is_subset(&other.bits)
     }
 
-    /// Whether the two have no key in common. It reads the words of both up to that of the lesser of their greatest keys, or
-    /// of the first key that both have.
+    /// Whether the two have no key in common. It visits each word here that has a key, up to that of the first key that both have.
     pub fn is_disjoint(&self, other: &EntitySet<K>) -> bool
         ensures { IsTrue result
             ↔ (fin_set.intersection self.now.members other.now.members ≡ fin_set.empty) }
