@@ -4,10 +4,8 @@ use Rattle.std.specs.Ordering.{nat_cmp}
 use Rattle.std.specs.FinSet.{FinSet, empty, contains}
 use Rattle.std.proofs.lemmas.Bool.{cases_eq, false_from_ne_true}
 use Rattle.wic_base.proofs.SetFacts.{empty_of_none}
-use Rattle.wic_bitset.specs.From.{IsLeastFrom, NoneFrom}
-use Rattle.wic_bitset.specs.Summary.{Summarizes}
-use Rattle.wic_bitset.specs.Words.{Words, EmptiesWord}
-use Rattle.wic_bitset.proofs.SummaryFacts.{filled}
+use Rattle.wic_bitset.specs.From.{NoneFrom}
+use Rattle.wic_bitset.specs.Words.{EmptiesWord}
 
 -- each member of s stands in a word from k to below `end`
 abbrev pub StandsIn : ℕ → ℕ → ℕ → FinSet nat_cmp → Type 0
@@ -28,22 +26,6 @@ stands_in_less w k end s t emptied before i has = ⊎_elim
 pub stands_nowhere : (w end : ℕ) (s : FinSet nat_cmp) → StandsIn w end end s → s ≡ empty
 stands_nowhere w end s none =
     empty_of_none s (λ i. false_from_ne_true (contains s i) (λ has. absurd (let h = none i has in omega (arith, h.0, h.1))))
-
--- at first
-pub stands_marked-first : (w : ℕ) (words : Words) (marks : FinSet nat_cmp) (end : ℕ) → Summarizes w words marks end
-    → StandsMarked w marks 0 words.members
-stands_marked-first w words marks end sum i has = (omega arith, filled w words marks end sum i has)
-
--- the first of these words is emptied
-pub stands_marked-less : (w next k : ℕ) (marks s t : FinSet nat_cmp) → IsLeastFrom marks next k → EmptiesWord w k s t
-    → StandsMarked w marks next s → StandsMarked w marks (k + 1) t
-stands_marked-less w next k marks s t least emptied before i has = ⊎_elim
-    (λ at. absurd (let none = emptied.here i at in cc))
-    (λ apart.
-    let was = before i (sym (emptied.elsewhere i apart) ∙ has) in
-    let le = least.least (i / w) was.0 was.1 in
-    (omega arith, was.1))
-    (cases_eq (i / w) k)
 
 -- no word is left
 pub stands_marked-none : (w next : ℕ) (marks s : FinSet nat_cmp) → NoneFrom marks next → StandsMarked w marks next s → s ≡ empty

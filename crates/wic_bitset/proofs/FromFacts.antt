@@ -117,10 +117,6 @@ least_from-next w s i n x some behind before least =
           (cases_lt (q / w) n);
     }
 
--- there is none in the words that are left
-pub none_from-end : (w : ℕ) (s : FinSet nat_cmp) (i n : ℕ) → NoneUntil w s i n → EndsBefore w s n → NoneFrom s i
-none_from-end w s i n before ends q up = false_from_ne_true (contains s q) (λ has. absurd (let no = before q up (ends q has) in cc))
-
 -- it starts behind the last word
 pub none_from-past : (w : ℕ) (s : FinSet nat_cmp) (i n : ℕ) → 0 < w → n ≤ i / w → EndsBefore w s n → NoneFrom s i
 none_from-past w s i n some past ends q up = false_from_ne_true (contains s q) (λ has.

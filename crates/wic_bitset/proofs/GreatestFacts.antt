@@ -1,6 +1,6 @@
 -- The greatest member as a number is put in or taken out, and from one word to the next.
-use Rattle.std.proofs.Common.{⊎_elim, ◌≡◌, ◌≢◌, ℕ, ◌+◌, ◌*◌, ◌/◌, ◌<◌, ◌≤◌, true, false, max, Bool, not, Option, Some, None, is_some}
-use Rattle.std.proofs.Common.{IsNone, IsTrue, refl, ◌↔◌, sym, ap, subst, ◌∙◌, arith}
+use Rattle.std.proofs.Common.{⊎_elim, ◌≡◌, ◌≢◌, ℕ, ◌+◌, ◌*◌, ◌<◌, ◌≤◌, true, false, max, Bool, not, Option, Some, None, is_some}
+use Rattle.std.proofs.Common.{IsNone, IsTrue, refl, ◌↔◌, sym, ap, ◌∙◌, arith}
 use Rattle.std.specs.Prelude.{nat_eq, IfSome}
 use Rattle.std.proofs.Math.Nat.{div-lt_iff_lt-mul}
 use Rattle.std.specs.Option.{option_eq}
@@ -10,7 +10,7 @@ use Rattle.std.proofs.lemmas.Bool.{cases_eq, cases_lt, false_from_ne_true}
 use Rattle.std.proofs.lemmas.Bool.Decides.{nat_tests}
 use Rattle.wic_bitset.specs.Greatest.{IsMax}
 use Rattle.wic_base.specs.Sets.{IsGreatest}
-use Rattle.wic_bitset.specs.Words.{EndsBefore, IsGreatestOfWord, IsWordEmpty}
+use Rattle.wic_bitset.specs.Words.{EndsBefore, IsGreatestOfWord}
 use Rattle.wic_bitset.proofs.DivisionFacts.{div_mono}
 use Rattle.wic_base.proofs.SetFacts.{empty_of_none, none_in_empty, remove_absent, there_after_insert, same_after_insert}
 use Rattle.wic_base.proofs.SetFacts.{same_after_remove, was_before_remove}
@@ -64,11 +64,6 @@ greatest-insert s m i old = record {
       (cases_eq q i);
 }
 
--- the number that the greatest is asked to be
-pub greatest-is : (s : FinSet nat_cmp) (i : ℕ) (r : Option ℕ) → IsMax s r → option_eq nat_eq r (Some i) ≡ true → IsGreatest s i
-greatest-is s i None none test = absurd (cc)
-greatest-is s i (Some m) last test = let same : m ≡ i = grind (arith, nat_tests) in subst (IsGreatest s) same last
-
 -- another number is taken out
 pub max-remove_other : (s : FinSet nat_cmp) (i : ℕ) (r : Option ℕ) → IsMax s r → option_eq nat_eq r (Some i) ≡ false
     → IsMax (remove s i) r
@@ -78,13 +73,6 @@ max-remove_other s i (Some m) old other =
       member = same_after_remove s i m apart ∙ old.member;
       greatest = λ q has. old.greatest q (was_before_remove s i q has);
     }
-
--- if the greatest is taken out, no member stands behind its word
-pub ends-remove_greatest : (w : ℕ) (s : FinSet nat_cmp) (i : ℕ) → 0 < w → IsGreatest s i → EndsBefore w (remove s i) (i / w + 1)
-ends-remove_greatest w s i some old q has =
-    let le : q ≤ i = old.greatest q (was_before_remove s i q has) in
-    let word = div_mono w q i some le in
-    omega arith
 
 -- ---- from one word to the next
 
@@ -102,13 +90,6 @@ greatest_of_last_word w s k x some ends last = record {
       (λ le. le)
       (cases_lt x i);
 }
-
--- an empty word at the end can be left out
-pub ends-empty_word : (w : ℕ) (s : FinSet nat_cmp) (k : ℕ) → EndsBefore w s (k + 1) → IsWordEmpty w s k → EndsBefore w s k
-ends-empty_word w s k ends none i has = ⊎_elim
-    (λ here. absurd (let no = none i here in cc))
-    (λ apart. let h = ends i has in omega arith)
-    (cases_eq (i / w) k)
 
 -- an empty set ends before its first word
 pub ends-empty : (w : ℕ) (s : FinSet nat_cmp) → s ≡ empty → EndsBefore w s 0
