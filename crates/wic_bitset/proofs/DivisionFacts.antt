@@ -30,10 +30,6 @@ div_ceil-least w a n some reaches = ⊎_elim
     (λ le. le)
     (cases_lt n (div_ceil a w))
 
--- a larger number, divided and rounded up, is no smaller
-pub div_ceil-mono : (w a b : ℕ) → 0 < w → a ≤ b → div_ceil a w ≤ div_ceil b w
-div_ceil-mono w a b some le = div_ceil-least w a (div_ceil b w) some (let h = div_ceil-reaches w b some in omega arith)
-
 -- a number below n has its word among those that the numbers below n need
 pub below_div_ceil : (w k n : ℕ) → 0 < w → k < n → k / w < div_ceil n w
 below_div_ceil w k n some below = div_below k w (div_ceil n w) some (let h = div_ceil-reaches w n some in omega arith)

@@ -75,13 +75,6 @@ max-remove_other s i (Some m) old other =
       greatest = λ q has. old.greatest q (was_before_remove s i q has);
     }
 
--- if the greatest is taken out, no member stands behind its word
-pub ends-remove_greatest : (w : ℕ) (s : FinSet nat_cmp) (i : ℕ) → 0 < w → IsGreatest s i → EndsBefore w (remove s i) (i / w + 1)
-ends-remove_greatest w s i some old q has =
-    let le : q ≤ i = old.greatest q (was_before_remove s i q has) in
-    let word = div_mono w q i some le in
-    omega arith
-
 -- ---- from one word to the next
 
 -- the greatest member of the last word that has one
