@@ -1,5 +1,5 @@
 -- The ascending list of the members is any list of them up to a place that is above them all.
-use Rattle.std.proofs.Common.{⊎_elim, ◌≡◌, ℕ, ◌+◌, ◌-◌, ◌<◌, ◌≤◌, Bool, true, List, [], ◌∷◌, ◌++◌, length, length-append, sym, ap, ◌∙◌}
+use Rattle.std.proofs.Common.{⊎_elim, ◌≡◌, ℕ, ◌+◌, ◌-◌, ◌<◌, ◌≤◌, Bool, true, List, [], ◌∷◌, ◌++◌, length, sym, ap, ◌∙◌}
 use Rattle.std.proofs.Common.{arith, max}
 use Rattle.std.proofs.Common.{append-nil, IsTrue, ◌↔◌}
 use Rattle.std.specs.Prelude.{nat_eq, All, Option, Some, None}
@@ -73,14 +73,6 @@ pub length-rising-le : (s : FinSet nat_cmp) (end : ℕ) → ((i : ℕ) → conta
 length-rising-le s end below =
     let same = ap length (between-rising s end below) in
     omega (arith, same, at_most_in (contains s) 0 (end - 0))
-
--- no more members stand below a place than there are
-pub length-between-le : (s : FinSet nat_cmp) (n : ℕ) → length (members_between s 0 n) ≤ len s
-length-between-le s n =
-    let top = greatest_of (items s) + 1 in
-    let whole = ap length (between-rising s (max n top) (λ i has. let h = below_top s i has in omega arith)) in
-    let parts = ap length (between-split s 0 n (max n top) (omega arith) (omega arith)) in
-    omega (arith, whole, parts, length-rising s, length-append (members_between s 0 n) (members_between s n (max n top)))
 
 -- what is true of each member is true of each of the list
 pub All-rising : (P : ℕ → Type 0) (s : FinSet nat_cmp) → ((i : ℕ) → contains s i ≡ true → P i) → All P (rising s)

@@ -1,9 +1,14 @@
 //! A walk over the members of a compound set.
-ghost use Rattle.std.specs.Prelude.{◌≡◌};
+ghost use Rattle.std.specs.Prelude.{◌≡◌, ◌<◌};
+ghost use Rattle.std.specs.Prelude.{All};
+ghost use Rattle.std.specs.List.{flat_map};
 ghost use Rattle.std.specs.Iterator.{YieldsFirst, item_count};
+ghost use Rattle.wic_bitset.specs.Rising.{word_members};
 
-use crate::summarized::Levels;
+use crate::store::Store;
+use crate::summarized::UpperLevels;
 use crate::walk::Walk;
+use crate::word_iter::WordIter;
 use std::iter::FusedIterator;
 use std::marker::Model;
 use wic_scalar::ScalarBitSetStorage;
@@ -12,23 +17,36 @@ use wic_scalar::ScalarBitSetStorage;
 /// moves on.
 #[derive(Drop)]
 pub struct Iter<'a, T: ScalarBitSetStorage> {
-    walk: Walk<'a, T, Levels<T>>,
+    words: &'a Store<T>,
+    // The numbers of the words that have a member and are not yet read, a word of the summary at a time.
+    filled: Walk<'a, T, UpperLevels<T>>,
+    // What is left of the word that was read last.
+    word: WordIter<T>,
 }
 
 impl<'a, T: ScalarBitSetStorage> Model for Iter<'a, T> {
-    ghost use Rattle.std.specs.Prelude.{ℕ, List};
+    ghost use Rattle.std.specs.Prelude.{ℕ, List, ◌<◌, ◌++◌, All};
+    ghost use Rattle.std.specs.List.{flat_map};
+    ghost use Rattle.wic_bitset.specs.Rising.{word_members};
 
     ghost Value = { List ℕ };
 
-    ghost view = { λ it. it.walk };
+    ghost view = { λ it. it.word ++ flat_map (word_members T.width it.words.now.members) it.filled };
+
+    ghost invariant = { λ it. All (λ k. k < it.words.now.count) it.filled };
 }
 
 impl<'a, T: ScalarBitSetStorage> Iter<'a, T> {
-    #[inline]
-    pub(crate) fn new(walk: Walk<'a, T, Levels<T>>) -> Iter<'a, T>
-        ensures { result ≡ walk.entry }
+    // Over the members in the words that `filled` gives.
+    pub(crate) fn new(words: &'a Store<T>, filled: Walk<'a, T, UpperLevels<T>>) -> Iter<'a, T>
+        requires { All (λ k. k < words.now.count) filled }
+        ensures { result ≡ flat_map (word_members T.width words.now.members) filled.entry }
     {
-        Iter { walk }
+        Iter {
+            words,
+            filled,
+            word: WordIter::none(),
+        }
     }
 }
 
@@ -41,7 +59,15 @@ impl<'a, T: ScalarBitSetStorage> Iterator for Iter<'a, T> {
 
     #[inline]
     fn next(&mut self) -> Option<usize> {
-        self.walk.next()
+        loop {
+            if let Some(i) = self.word.next() {
+                return Some(i);
+            }
+            match self.filled.next() {
+                Some(k) => self.word = self.words.iter_word(k),
+                None => return None,
+            }
+        }
     }
 }
 

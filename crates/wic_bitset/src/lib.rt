@@ -3,9 +3,10 @@
 //!
 //! A [`CompoundBitSet`] has one bit per number. Its summary has one bit per word, which says whether the word has a member. A second
 //! level has one bit per word of the summary, and so on, four levels in all. So a walk and the search for the next greatest member
-//! pass over empty words unread, however many there are. A contract sees the members, as a finite set, and the number of words; the
-//! capacity is the words times the width. It is a port of the compound half of `cranelift_bitset`; `members`, `Hash` and the calls on
-//! two sets are added.
+//! pass over empty words unread, however many there are.
+//!
+//! A contract sees the members, as a finite set, and the number of words; the capacity is the words times the width. The crate is a
+//! port of the compound half of `cranelift_bitset`; `members`, `Hash` and the calls on two sets are added.
 //!
 //! # Example
 //!

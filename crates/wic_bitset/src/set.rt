@@ -264,7 +264,7 @@ impl<T: ScalarBitSetStorage> CompoundBitSet<T> {
         ensures below { All (λ i. i < capacity_of T.width self.now) result }
         ensures numbers { All (λ i. i ≤ 4294967295) result }
     {
-        Iter::new(Walk::new(&self.words, &self.summary))
+        Iter::new(&self.words, self.filled())
     }
 
     /// The words from word 0 to that of the maximum, and none if there is no member: place `j` of word `k` stands for the

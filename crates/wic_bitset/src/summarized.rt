@@ -101,10 +101,12 @@ impl<T: ScalarBitSetStorage, S: NumberSet> NumberSet for Summarized<T, S> {
         Ok(Summarized { words, marks })
     }
 
+    #[inline]
     fn insert(&mut self, i: usize) {
         insert_into(&mut self.words, &mut self.marks, i);
     }
 
+    #[inline]
     fn remove(&mut self, i: usize) {
         remove_from(&mut self.words, &mut self.marks, i);
     }
@@ -117,7 +119,8 @@ impl<T: ScalarBitSetStorage, S: NumberSet> NumberSet for Summarized<T, S> {
         greatest_marked(&self.words, &self.marks)
     }
 
-    #[inline]
+    // Out of line, so that a step of a walk within a word is short.
+    #[inline(never)]
     fn least_from(&self, i: usize) -> Option<usize> {
         least_marked_from(&self.words, &self.marks, i)
     }
