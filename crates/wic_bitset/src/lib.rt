@@ -26,7 +26,7 @@
 //!
 //! A set grows to its greatest number: one of `u64` with the one member 4294967295 takes 512 MiB for its words, 8 MiB for the first
 //! level of its summary, and 130 KiB for the levels above. Check numbers from untrusted callers before you insert them. `clear` and
-//! `remove` give no memory back.
+//! `remove` give no memory back. The first growth of a set takes five allocations, one for each level.
 //!
 //! # Costs
 //!
