@@ -32,7 +32,8 @@ loop-k-preserved g c =
     let within = word_within w _ _ _ _ _ _ was.marks c.requires.other_marks how
     (subst (HasWordsFor w how c.args.other.now.members) (sym was.count) c.requires.within) c.in-Some.k next.member in
     record {
-      members = combines_more w _ _ _ _ _ _ was.marks c.requires.other_marks how c.loop-k.next _ was.members c.in-Some.k _ next word.members;
+      members = combines_more w _ _ _ _ _ _ was.marks c.requires.other_marks how c.loop-k.next _ was.members c.in-Some.k _ next
+          word.members;
       changed = elim c.if-combine_marked_word.branch [
         | then-combine_marked_word b ↦ tells_changed w how _ _ _ _ _ _ next.from was.members word.members _ _ _
             b.if-combine_marked_word.true b.changed-is was.changed word.changed
