@@ -36,7 +36,7 @@
 //! | `union_with` | each word of the other that has a key, and a few steps for it; growths as for `insert` |
 //! | `try_clone` | the words |
 //!
-//! A word has 64 keys. A few steps are at most two words in each of five levels; no clause says how many.
+//! A word has 64 keys. A few steps are at most two words in each of four levels, and four in the fifth; no clause says how many.
 #![tactic(auto)]
 
 #[cfg(test)]

@@ -22,35 +22,35 @@ flat_map-nested f g (x ∷ xs) =
     ap (λ ys. flat_map f (g x) ++ ys) (flat_map-nested f g xs) ∙ sym (flat_map-append f (g x) (flat_map g xs))
 
 -- the words of all blocks are the words that have a member
-pub words_by_blocks : (w : ℕ) (s : FinSet nat_cmp) → 0 < w
-    → flat_map (block_words w s) (rising (filled_words w (filled_words w s))) ≡ rising (filled_words w s)
-words_by_blocks w s some = by_words w (filled_words w s) some
+pub words_by_blocks : (w v : ℕ) (s : FinSet nat_cmp) → 0 < v
+    → flat_map (block_words w v s) (rising (filled_words v (filled_words w s))) ≡ rising (filled_words w s)
+words_by_blocks w v s some = by_words v (filled_words w s) some
 
 -- and the members of all blocks are the members
-pub members_by_blocks : (w : ℕ) (s : FinSet nat_cmp) → 0 < w
-    → flat_map (block_members w s) (rising (filled_words w (filled_words w s))) ≡ rising s
-members_by_blocks w s some =
-    flat_map-nested (word_members w s) (block_words w s) (rising (filled_words w (filled_words w s)))
-    ∙ ap (flat_map (word_members w s)) (words_by_blocks w s some)
+pub members_by_blocks : (w v : ℕ) (s : FinSet nat_cmp) → 0 < w → 0 < v
+    → flat_map (block_members w v s) (rising (filled_words v (filled_words w s))) ≡ rising s
+members_by_blocks w v s some some_digits =
+    flat_map-nested (word_members w s) (block_words w v s) (rising (filled_words v (filled_words w s)))
+    ∙ ap (flat_map (word_members w s)) (words_by_blocks w v s some_digits)
     ∙ by_words w s some
 
-module _ (w : ℕ) (words : Words) (marks : FinSet nat_cmp) (end : ℕ) (sum : Summarizes w words marks end) (some : 0 < w) where
+module _ (w v : ℕ) (words : Words) (marks : FinSet nat_cmp) (end : ℕ) (sum : Summarizes w words marks end) (some : 0 < v) where
   -- a block is one of the summary's words
-  block_within : (b : ℕ) → contains (filled_words w (filled_words w words.members)) b ≡ true → b < div_ceil words.count w
+  block_within : (b : ℕ) → contains (filled_words v (filled_words w words.members)) b ≡ true → b < div_ceil words.count v
   block_within b has = ⊎_elim
       (λ inside. inside)
       (λ above. absurd (
-      let none : IsWordEmpty w (filled_words w words.members) b =
+      let none : IsWordEmpty v (filled_words w words.members) b =
       λ k at. false_from_ne_true (contains (filled_words w words.members) k) (λ there. absurd (
-      let low = below_div_ceil w k words.count some (filled_within w words marks end sum k there) in omega arith)) in
-      let no = (filled_words-empty w (filled_words w words.members) b).1 none in
+      let low = below_div_ceil v k words.count some (filled_within w words marks end sum k there) in omega arith)) in
+      let no = (filled_words-empty v (filled_words w words.members) b).1 none in
       cc))
-      (cases_lt b (div_ceil words.count w))
+      (cases_lt b (div_ceil words.count v))
 
   -- so is each
-  pub All-blocks : All (λ b. b < div_ceil words.count w) (rising (filled_words w (filled_words w words.members)))
-  All-blocks = All-rising (λ b. b < div_ceil words.count w) (filled_words w (filled_words w words.members)) block_within
+  pub All-blocks : All (λ b. b < div_ceil words.count v) (rising (filled_words v (filled_words w words.members)))
+  All-blocks = All-rising (λ b. b < div_ceil words.count v) (filled_words v (filled_words w words.members)) block_within
 
   -- and there are no more than the summary's words
-  pub few_blocks : length (rising (filled_words w (filled_words w words.members))) ≤ div_ceil words.count w
-  few_blocks = length-rising-le (filled_words w (filled_words w words.members)) (div_ceil words.count w) block_within
+  pub few_blocks : length (rising (filled_words v (filled_words w words.members))) ≤ div_ceil words.count v
+  few_blocks = length-rising-le (filled_words v (filled_words w words.members)) (div_ceil words.count v) block_within

@@ -4,7 +4,7 @@ use Rattle.std.specs.Int.{div_ceil}
 use Rattle.std.proofs.lemmas.Bool.{cases_lt}
 use Rattle.std.proofs.lemmas.Grind.{div_ceil_times}
 use Rattle.std.proofs.lemmas.Nat.{div_below, le-div}
-use Rattle.std.proofs.Math.Nat.{div-mul-le_self, suc-mul, mul-le-mul_right}
+use Rattle.std.proofs.Math.Nat.{div-mul-le_self, suc-mul, mul-le-mul_left, mul-le-mul_right}
 
 -- the start of the next word
 pub next_start : (k w : ℕ) → (k + 1) * w ≡ k * w + w
@@ -29,6 +29,13 @@ div_ceil-least w a n some reaches = ⊎_elim
     omega arith))
     (λ le. le)
     (cases_lt n (div_ceil a w))
+
+-- wider words are no more
+pub div_ceil-wider : (v w n : ℕ) → 0 < w → w ≤ v → div_ceil n v ≤ div_ceil n w
+div_ceil-wider v w n some wider =
+    let reaches = div_ceil-reaches w n some in
+    let up : div_ceil n w * w ≤ div_ceil n w * v = mul-le-mul_left (div_ceil n w) wider in
+    div_ceil-least v n (div_ceil n w) (omega arith) (omega arith)
 
 -- a number below n has its word among those that the numbers below n need
 pub below_div_ceil : (w k n : ℕ) → 0 < w → k < n → k / w < div_ceil n w

@@ -187,12 +187,12 @@ pub All-filled : (w : ℕ) (words : Words) (marks : FinSet nat_cmp) (end : ℕ) 
 All-filled w words marks end sum = All-rising (λ k. k < words.count) (filled_words w words.members) (filled_within w words marks end sum)
 
 -- what stands in word s of the summary
-pub block_words-are : (w : ℕ) (words : Words) (marks : FinSet nat_cmp) (end : ℕ) → Summarizes w words marks end → (s : ℕ)
-    → word_members w marks s ≡ block_words w words.members s
-block_words-are w words marks end sum s = ap (λ t. word_members w t s) (summary_is_filled_words w words marks end sum)
+pub block_words-are : (w v : ℕ) (words : Words) (marks : FinSet nat_cmp) (end : ℕ) → Summarizes w words marks end → (s : ℕ)
+    → word_members v marks s ≡ block_words w v words.members s
+block_words-are w v words marks end sum s = ap (λ t. word_members v t s) (summary_is_filled_words w words marks end sum)
 
 -- the words of a block have their place in the set
-pub All-block_words : (w : ℕ) (words : Words) (marks : FinSet nat_cmp) (end : ℕ) → Summarizes w words marks end → (s : ℕ)
-    → All (λ k. k < words.count) (block_words w words.members s)
-All-block_words w words marks end sum s = All-between (λ k. k < words.count) (filled_words w words.members) (s * w) (s * w + w)
+pub All-block_words : (w v : ℕ) (words : Words) (marks : FinSet nat_cmp) (end : ℕ) → Summarizes w words marks end → (s : ℕ)
+    → All (λ k. k < words.count) (block_words w v words.members s)
+All-block_words w v words marks end sum s = All-between (λ k. k < words.count) (filled_words w words.members) (s * v) (s * v + v)
     (filled_within w words marks end sum)

@@ -19,10 +19,14 @@ pub record Summarizes (w : ℕ) (words : Words) (marks : FinSet nat_cmp) (end : 
 abbrev pub filled_words : ℕ → FinSet nat_cmp → FinSet nat_cmp
 filled_words w s = from_list (map (λ i. i / w) (items s))
 
--- the words that have a member, ascending, of those whose digits stand in word k of the summary
-abbrev pub block_words : ℕ → FinSet nat_cmp → ℕ → List ℕ
-block_words w s k = word_members w (filled_words w s) k
+-- how many digits a word of a set's summary has, whatever the width of the set's own words is
+abbrev pub summary_width : ℕ
+summary_width = 128
+
+-- the words that have a member, ascending, of those whose digits stand in word k of a summary whose words are v wide
+abbrev pub block_words : ℕ → ℕ → FinSet nat_cmp → ℕ → List ℕ
+block_words w v s k = word_members v (filled_words w s) k
 
 -- the members in these words, ascending
-abbrev pub block_members : ℕ → FinSet nat_cmp → ℕ → List ℕ
-block_members w s k = flat_map (word_members w s) (block_words w s k)
+abbrev pub block_members : ℕ → ℕ → FinSet nat_cmp → ℕ → List ℕ
+block_members w v s k = flat_map (word_members w s) (block_words w v s k)

@@ -5,8 +5,8 @@ ghost use Rattle.std.specs.List.{flat_map};
 ghost use Rattle.std.specs.Iterator.{YieldsFirst, item_count};
 ghost use Rattle.wic_bitset.specs.Rising.{word_members};
 
+use crate::levels::UpperLevels;
 use crate::store::Store;
-use crate::summarized::UpperLevels;
 use crate::walk::Walk;
 use crate::word_iter::WordIter;
 use std::iter::FusedIterator;
@@ -19,7 +19,7 @@ use wic_scalar::ScalarBitSetStorage;
 pub struct Iter<'a, T: ScalarBitSetStorage> {
     words: &'a Store<T>,
     // The numbers of the words that have a member and are not yet read, a word of the summary at a time.
-    filled: Walk<'a, T, UpperLevels<T>>,
+    filled: Walk<'a, u128, UpperLevels>,
     // What is left of the word that was read last.
     word: WordIter<T>,
 }
@@ -38,7 +38,7 @@ impl<'a, T: ScalarBitSetStorage> Model for Iter<'a, T> {
 
 impl<'a, T: ScalarBitSetStorage> Iter<'a, T> {
     // Over the members in the words that `filled` gives.
-    pub(crate) fn new(words: &'a Store<T>, filled: Walk<'a, T, UpperLevels<T>>) -> Iter<'a, T>
+    pub(crate) fn new(words: &'a Store<T>, filled: Walk<'a, u128, UpperLevels>) -> Iter<'a, T>
         requires { All (λ k. k < words.now.count) filled }
         ensures { result ≡ flat_map (word_members T.width words.now.members) filled.entry }
     {

@@ -2,8 +2,8 @@
 //! allocation fails.
 //!
 //! A [`CompoundBitSet`] has one bit per number. Its summary has one bit per word, which says whether the word has a member. A second
-//! level has one bit per word of the summary, and so on, four levels in all. So a walk and the search for the next greatest member
-//! pass over empty words unread, however many there are.
+//! level has one bit per word of the summary, and so on, four levels in all, each in words of 128 bits. So a walk and the search for the
+//! next greatest member pass over empty words unread, however many there are.
 //!
 //! A contract sees the members, as a finite set, and the number of words; the capacity is the words times the width. The crate is a
 //! port of the compound half of `cranelift_bitset`; `members`, `Hash` and the calls on two sets are added.
@@ -25,7 +25,7 @@
 //! # What it doesn't protect against
 //!
 //! A set grows to its greatest number: one of `u64` with the one member 4294967295 takes 512 MiB for its words, 8 MiB for the first
-//! level of its summary, and 130 KiB for the levels above. Check numbers from untrusted callers before you insert them. `clear` and
+//! level of its summary, and 65 KiB for the levels above. Check numbers from untrusted callers before you insert them. `clear` and
 //! `remove` give no memory back. The first growth of a set takes five allocations, one for each level.
 //!
 //! # Costs
@@ -41,9 +41,8 @@
 //! | `union_with` | each word of the other that has a member, and a few steps per level for it; growths as for `insert` |
 //! | `iter_scalars`, `try_clone` | the words |
 //!
-//! No clause says how many words of the summary a call reads, but for `members`. The last level is read word by word. With
-//! 4294967295 as a member it has 1 word for `u128`, 4 for `u64` and `usize`, 128 for `u32`, 4096 for `u16` and 131072 for `u8`, or up
-//! to twice as many by the rule of growth.
+//! A few steps per level are at most two words read; the last level has at most four words. No clause says how many words of the
+//! summary a call reads, but for `members`.
 #![tactic(auto)]
 
 #[cfg(test)]
@@ -53,6 +52,7 @@ mod compared;
 mod growth;
 mod iter;
 mod iter_scalars;
+mod levels;
 pub mod laws;
 mod marked;
 mod number_set;

@@ -12,7 +12,7 @@ ghost use Rattle.wic_base.specs.Sets.{IsGreatest};
 ghost use Rattle.wic_bitset.specs.Growth.{count_after, count_for};
 ghost use Rattle.wic_bitset.specs.Rising.{rising, word_members};
 ghost use Rattle.wic_bitset.specs.Room.{MakesRoomFor};
-ghost use Rattle.wic_bitset.specs.Summary.{block_members, block_words, filled_words, Summarizes};
+ghost use Rattle.wic_bitset.specs.Summary.{block_members, block_words, filled_words, summary_width, Summarizes};
 ghost use Rattle.wic_bitset.specs.Words.{AreWords, EndsBefore, IsWordEmpty};
 
 mod pairs;
@@ -20,10 +20,10 @@ mod pairs;
 use crate::growth::grown_count;
 use crate::iter::Iter;
 use crate::iter_scalars::IterScalars;
+use crate::levels::{Levels, TopLevels, UpperLevels};
 use crate::marked::{clear_marked, greatest_marked, insert_into, remove_from};
 use crate::number_set::NumberSet;
 use crate::store::Store;
-use crate::summarized::{Levels, TopLevels, UpperLevels};
 use crate::walk::Walk;
 use std::alloc::Global;
 use std::marker::Model;
@@ -40,7 +40,7 @@ use wic_vec::TryVec;
 pub struct CompoundBitSet<T: ScalarBitSetStorage = usize> {
     words: Store<T>,
     // The numbers of the words that have a member.
-    summary: Levels<T>,
+    summary: Levels,
     // The greatest member.
     max: Option<usize>,
 }
@@ -49,7 +49,7 @@ impl<T: ScalarBitSetStorage> Model for CompoundBitSet<T> {
     ghost use Rattle.std.specs.Prelude.{◌*◌};
     ghost use Rattle.wic_bitset.specs.Compound.{Compound, compound_code};
     ghost use Rattle.wic_bitset.specs.Greatest.{IsMax};
-    ghost use Rattle.wic_bitset.specs.Summary.{Summarizes};
+    ghost use Rattle.wic_bitset.specs.Summary.{summary_width, Summarizes};
 
     ghost Value = { Compound };
 
@@ -57,7 +57,7 @@ impl<T: ScalarBitSetStorage> Model for CompoundBitSet<T> {
 
     ghost view = { λ s. record { members = s.words.members; words = s.words.count } };
 
-    ghost invariant = { λ s. Summarizes T.width s.words s.summary.members (s.summary.count * T.width)
+    ghost invariant = { λ s. Summarizes T.width s.words s.summary.members (s.summary.count * summary_width)
         × IsMax s.words.members s.max };
 }
 
@@ -331,20 +331,20 @@ impl<T: ScalarBitSetStorage> CompoundBitSet<T> {
     }
 
     // A walk over the numbers of the words that have a member.
-    fn filled(&self) -> Walk<'_, T, UpperLevels<T>>
+    fn filled(&self) -> Walk<'_, u128, UpperLevels>
         ensures { result ≡ rising (filled_words T.width self.now.members) }
     {
         self.summary.iter()
     }
 
     // A walk over the numbers of the summary words that have a member.
-    fn blocks(&self) -> Walk<'_, T, TopLevels<T>>
+    fn blocks(&self) -> Walk<'_, u128, TopLevels>
         ensures blocks { result
-            ≡ rising (filled_words T.width (filled_words T.width self.now.members)) }
-        ensures few { length result ≤ div_ceil self.now.words T.width }
-        ensures within { All (λ b. b < div_ceil self.now.words T.width) result }
+            ≡ rising (filled_words summary_width (filled_words T.width self.now.members)) }
+        ensures few { length result ≤ div_ceil self.now.words summary_width }
+        ensures within { All (λ b. b < div_ceil self.now.words summary_width) result }
     {
-        self.summary.marks().iter()
+        self.summary.blocks()
     }
 
     // The number of words up to that of the maximum.
@@ -366,11 +366,11 @@ impl<T: ScalarBitSetStorage> CompoundBitSet<T> {
         list: &mut TryVec<usize>,
         steps: &mut Steps<L>,
     ) -> Result<(), OutOfMemory>
-        requires { s < div_ceil self.now.words T.width }
+        requires { s < div_ceil self.now.words summary_width }
         ensures members { OnOk result
-            (list.new.items ≡ list.old.items ++ block_members T.width self.now.members s) }
+            (list.new.items ≡ list.old.items ++ block_members T.width summary_width self.now.members s) }
         ensures looks { steps.new
-            ≤ steps.old + 1 + length (block_words T.width self.now.members s) }
+            ≤ steps.old + 1 + length (block_words T.width summary_width self.now.members s) }
     {
         for k in self.summary.read(s, steps) {
             self.push_word(k, list, steps)?;

@@ -18,15 +18,6 @@ use std::sync::ledger::Ledger;
 use wic_base::{OutOfMemory, Steps};
 use wic_scalar::ScalarBitSetStorage;
 
-/// The levels of a summary from the third on.
-pub type TopLevels<T> = Summarized<T, Store<T>>;
-
-/// The levels of a summary from the second on.
-pub type UpperLevels<T> = Summarized<T, TopLevels<T>>;
-
-/// The summary of a set, in four levels. Each has the numbers of the words of the one below that have a member; the last is plain.
-pub type Levels<T> = Summarized<T, UpperLevels<T>>;
-
 /// A set in words with its marks.
 #[derive(Drop)]
 pub struct Summarized<T: ScalarBitSetStorage, S: NumberSet> {

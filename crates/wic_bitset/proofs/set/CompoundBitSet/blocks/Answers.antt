@@ -1,8 +1,8 @@
-use Rattle.std.proofs.Common.{◌<◌, ◌≤◌, length, ap, sym, subst, ◌∙◌}
+use Rattle.std.proofs.Common.{◌<◌, ◌≤◌, length, ap, sym, subst, ◌∙◌, arith}
 use Rattle.std.specs.Prelude.{All}
 use Rattle.std.specs.Int.{div_ceil}
 use Rattle.wic_bitset.specs.Rising.{rising}
-use Rattle.wic_bitset.specs.Summary.{filled_words}
+use Rattle.wic_bitset.specs.Summary.{filled_words, summary_width}
 use Rattle.wic_bitset.proofs.BlockFacts.{All-blocks, few_blocks}
 use Rattle.wic_bitset.proofs.SummaryFacts.{summary_is_filled_words}
 use Rattle.wic_bitset.proofs.set.CompoundBitSet.blocks.Goals as goal
@@ -11,18 +11,18 @@ pub returns-clause-blocks : goal.returns-clause-blocks
 returns-clause-blocks g c =
     let w = g.T.ScalarBitSetStorage.width in
     let marks = summary_is_filled_words w c.self.inside.words _ _ c.self.invariant.0 ∙ ap (λ v. filled_words w v.members) c.self.view_is in
-    c.iter.ensures ∙ ap rising (c.marks.ensures ∙ ap (filled_words w) marks)
+    c.blocks-2.ensures ∙ ap (λ marks. rising (filled_words summary_width marks)) marks
 
 pub returns-clause-few : goal.returns-clause-few
 returns-clause-few g c =
     let w = g.T.ScalarBitSetStorage.width in
-    subst (λ bs. length bs ≤ div_ceil c.args.self.now.words w) (sym (returns-clause-blocks g c))
-    (subst (λ v. length (rising (filled_words w (filled_words w v.members))) ≤ div_ceil v.words w) c.self.view_is
-    (few_blocks w c.self.inside.words _ _ c.self.invariant.0 g.T.ScalarBitSetStorage.width_within.positive))
+    subst (λ bs. length bs ≤ div_ceil c.args.self.now.words summary_width) (sym (returns-clause-blocks g c))
+    (subst (λ v. length (rising (filled_words summary_width (filled_words w v.members))) ≤ div_ceil v.words summary_width) c.self.view_is
+    (few_blocks w summary_width c.self.inside.words _ _ c.self.invariant.0 (omega arith)))
 
 pub returns-clause-within : goal.returns-clause-within
 returns-clause-within g c =
     let w = g.T.ScalarBitSetStorage.width in
-    subst (All (λ b. b < div_ceil c.args.self.now.words w)) (sym (returns-clause-blocks g c))
-    (subst (λ v. All (λ b. b < div_ceil v.words w) (rising (filled_words w (filled_words w v.members)))) c.self.view_is
-    (All-blocks w c.self.inside.words _ _ c.self.invariant.0 g.T.ScalarBitSetStorage.width_within.positive))
+    subst (All (λ b. b < div_ceil c.args.self.now.words summary_width)) (sym (returns-clause-blocks g c))
+    (subst (λ v. All (λ b. b < div_ceil v.words summary_width) (rising (filled_words summary_width (filled_words w v.members)))) c.self.view_is
+    (All-blocks w summary_width c.self.inside.words _ _ c.self.invariant.0 (omega arith)))
