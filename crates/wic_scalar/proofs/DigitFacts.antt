@@ -3,15 +3,15 @@ use Rattle.std.proofs.Common.{⊎_elim, ◌≡◌, ℕ, zero, suc, ◌+◌, ◌-
 use Rattle.std.proofs.Common.{sym, ap, subst, ◌∙◌, inl, inr, arith, ◌↔◌, bit_and, bit_or, IsTrue}
 use Rattle.std.specs.Prelude.{◌==◌, nat_lt, nat_eq}
 use Rattle.std.specs.Int.{bit_at}
-use Rattle.std.proofs.lemmas.Bool.{cases_eq, cases_lt}
+use Rattle.std.proofs.lemmas.Bool.{cases_eq, cases_lt, cases_Bool}
 use Rattle.std.proofs.lemmas.Bool.Decides.{nat_tests}
-use Rattle.std.proofs.lemmas.Nat.{and-not, one_shl, pow_below, pow_pos, leading_top, le-div, div_below, shr_split}
+use Rattle.std.proofs.lemmas.Nat.{and-not, one_shl, pow_below, pow_pos, leading_top, le-div, div_below, shr_split, mod_low}
 use Rattle.std.proofs.Math.Nat.{eq-zero-or-pos, pow-suc}
 use Rattle.std.proofs.lemmas.Nat.Bits.{bit_at-zero, bit_at_and, bit_at_or, bit_at-pow_same, bit_at-pow_other, bit_at_ones}
 use Rattle.std.proofs.lemmas.Nat.Bits.{bit_at_ones_above, bit_at-lt, same_from_bits_below, and_pow, ones_shr, bit_at-suc, bit_at_lowest}
 use Rattle.std.proofs.lemmas.Nat.Bits.{bit_at_above, bit_at_cat_low}
 use lib.Count.{count_leading_zeros, count_trailing_zeros}
-use Rattle.wic_scalar.specs.Digits.{is_one, SameDigits, IsLowZeros, IsHighZeros}
+use Rattle.wic_scalar.specs.Digits.{is_one, SameDigits, IsLowZeros, IsHighZeros, IsWithoutLowest}
 
 -- a digit is 1 or 0
 pub digit_cases : (n i : ℕ) → ((bit_at n i ≡ 1) × (is_one n i ≡ true)) ⊎ ((bit_at n i ≡ 0) × (is_one n i ≡ false))
@@ -147,6 +147,48 @@ top_digit n k h = ⊎_elim
     (λ one. inl (one, rw one refl))
     (λ less. let none : n / 2 ^ k ≡ 0 = omega arith in inr (none, rw none refl))
     (cases_eq (n / 2 ^ k) 1)
+
+-- ---- the lowest digit 1
+
+-- a number with a digit 1 isn't 0
+some_from_one : (n i : ℕ) → is_one n i ≡ true → 0 < n
+some_from_one n i one = ⊎_elim
+    (λ none. absurd (let z : is_one n i ≡ false = ap (λ m. is_one m i) none ∙ is_one-zero i in cc))
+    (λ some. some)
+    (eq-zero-or-pos n)
+
+-- of the digits 1 of n, n - 1 has all but the lowest, at z
+kept_less_one : (z n k : ℕ) → ((i : ℕ) → i < z → is_one n i ≡ false) → is_one n z ≡ true → is_one n k ≡ true
+    → is_one (n - 1) k ≡ not (k == z)
+kept_less_one zero n zero zeros one here = grind (arith, is_one-lowest n, is_one-lowest (n - 1))
+kept_less_one zero n (suc k) zeros one here =
+    let half : (n - 1) / 2 ≡ n / 2 = grind (arith, is_one-lowest n) in
+    is_one-suc (n - 1) k ∙ ap (λ m. is_one m k) half ∙ sym (is_one-suc n k) ∙ here ∙ grind (arith, nat_tests)
+kept_less_one (suc z) n zero zeros one here = absurd (let none = zeros 0 (omega arith) in cc)
+kept_less_one (suc z) n (suc k) zeros one here =
+    let one' : is_one (n / 2) z ≡ true = sym (is_one-suc n z) ∙ one in
+    let some : 0 < n / 2 = some_from_one (n / 2) z one' in
+    let none : is_one n 0 ≡ false = zeros 0 (omega arith) in
+    let half : (n - 1) / 2 ≡ n / 2 - 1 = grind (arith, is_one-lowest n) in
+    is_one-suc (n - 1) k ∙ ap (λ m. is_one m k) half
+    ∙ kept_less_one z (n / 2) k (λ i h. sym (is_one-suc n i) ∙ zeros (suc i) (omega arith)) one' (sym (is_one-suc n k) ∙ here)
+    ∙ grind (arith, nat_tests)
+
+-- `n & n.wrapping_sub(1)` at the width w takes it out
+pub without_lowest : (w n : ℕ) → n < 2 ^ w → IsWithoutLowest w n (bit_and n ((n + (2 ^ w - 1)) % 2 ^ w))
+without_lowest w n fits z low k below =
+    let less = (n + (2 ^ w - 1)) % 2 ^ w in
+    is_one-bit_and n less k ∙ ⊎_elim
+    (λ here.
+    let some : 0 < n = some_from_one n k here in
+    let within : z < w = ⊎_elim (λ before. absurd (let none = low.zeros k before in cc)) (λ after. omega arith) (cases_lt k z) in
+    let one : is_one n z ≡ true = low.one within in
+    let past : n + (2 ^ w - 1) ≡ 1 * 2 ^ w + (n - 1) = omega arith in
+    let e : less ≡ n - 1 = ap (λ m. m % 2 ^ w) past ∙ mod_low 1 w (n - 1) (omega arith) in
+    let kept : is_one (n - 1) k ≡ not (k == z) = kept_less_one z n k low.zeros one here in
+    rw (here, e) kept)
+    (λ gone. rw gone refl)
+    (cases_Bool (is_one n k))
 
 -- ---- what the counts of an integer return
 

@@ -17,7 +17,7 @@ use Rattle.std.proofs.lemmas.List.FromFn.{length-range_with_len, get_or-range_wi
 use Rattle.std.proofs.lemmas.Nat.{pow_pos, div_below, mod_below, shr_split, ones_cat}
 use Rattle.std.proofs.Math.Nat.{pow-suc}
 use lib.Count.{ones, ones-ones}
-use Rattle.wic_scalar.specs.Digits.{is_one, SameDigits, IsLowZeros, IsHighZeros}
+use Rattle.wic_scalar.specs.Digits.{is_one, SameDigits, IsLowZeros, IsHighZeros, IsWithoutLowest}
 use Rattle.wic_scalar.specs.Scalar.{members_of, set_of}
 use Rattle.wic_base.specs.Sets.{IsGreatest, IsLeast}
 use Rattle.wic_scalar.proofs.DigitFacts.{is_one-mod, top_digit}
@@ -181,6 +181,20 @@ least_member w n z low within = record {
       let one : is_one n i ≡ true = sym (contains_below w n i (below_width w n i there)) ∙ there in
       ⊎_elim (λ below. let none = low.zeros i below in absurd (cc)) (λ above. above) (cases_lt i z);
 }
+
+-- and the least member is the place of the lowest digit 1
+low_zeros_from_least : (w n z : ℕ) → z < w → IsLeast (set_of w n) z → IsLowZeros w n z
+low_zeros_from_least w n z within least = record {
+  within = omega arith;
+  zeros = λ i before. false_from_ne_true (is_one n i)
+      (λ one. let at : z ≤ i = least.least i (contains_below w n i (omega arith) ∙ one) in omega arith);
+  one = λ h. sym (contains_below w n z h) ∙ least.member;
+}
+
+-- so without its lowest digit 1 a number's set is without its least member
+pub least_taken_out : (w n m z : ℕ) → z < w → IsLeast (set_of w n) z → IsWithoutLowest w n m → set_of w m ≡ remove (set_of w n) z
+least_taken_out w n m z within least without =
+    set_of-remove w n m z (without z (low_zeros_from_least w n z within least))
 
 -- if y digits 0 stand above the highest digit 1, the place below them is the greatest member
 pub greatest_member : (w n y z : ℕ) → IsHighZeros w n y → z + y + 1 ≡ w → IsGreatest (set_of w n) z

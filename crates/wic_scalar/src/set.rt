@@ -129,6 +129,7 @@ impl<T: ScalarBitSetStorage> ScalarBitSet<T> {
 
     /// Takes the least member out and returns it, or `None` if there is none.
     #[inline]
+    #[tactic(auto, using(crate::proofs::MemberFacts::least_taken_out))]
     pub fn pop_min(&mut self) -> Option<u8>
         ensures none { IsNone result ↔ (set_of T.width (T.number self.old.0) ≡ fin_set.empty) }
         ensures stays { IfNone result (self.new ≡ self.old) }
@@ -139,7 +140,7 @@ impl<T: ScalarBitSetStorage> ScalarBitSet<T> {
     {
         match self.min() {
             Some(least) => {
-                self.take_out(least);
+                self.0 = self.0.without_lowest();
                 Some(least)
             }
             None => None,

@@ -2,13 +2,13 @@
 ghost use Rattle.std.specs.Prelude.{◌≡◌, ◌==◌, ◌&&◌, ◌||◌, ℕ, ◌<◌, ◌≤◌, ◌↔◌, IsTrue, false, length, nat_lt, not};
 ghost use Rattle.wic_scalar.specs.Scalar.{IsWidth, IsWidth-check};
 ghost use Rattle.std.specs.Prelude.{refl};
-ghost use Rattle.wic_scalar.specs.Digits.{is_one, SameDigits, IsLowZeros, IsHighZeros};
+ghost use Rattle.wic_scalar.specs.Digits.{is_one, SameDigits, IsLowZeros, IsHighZeros, IsWithoutLowest};
 ghost use Rattle.wic_scalar.specs.Scalar.{members_of};
 
 /// An unsigned integer that holds a set, by its digits in base two: digit 0 is the lowest.
 ///
 /// Each law is a clause of a call, about the values that are passed. The operators that the original requires are calls here,
-/// so that each has its law; `width`, `zero`, `bit` and `below` are added.
+/// so that each has its law; `width`, `zero`, `bit`, `below` and `without_lowest` are added.
 pub trait ScalarBitSetStorage: Copy {
     /// The number of digits of each value.
     ghost width: { ℕ };
@@ -63,6 +63,10 @@ pub trait ScalarBitSetStorage: Copy {
     /// The number of digits 0 below the lowest digit 1: the width for 0.
     fn trailing_zeros(self) -> u8
         ensures { IsLowZeros width (number self) result };
+
+    /// The digits but the lowest 1, in two instructions: 0 stays 0.
+    fn without_lowest(self) -> Self
+        ensures { IsWithoutLowest width (number self) (number result) };
 
     /// The number of digits 1.
     fn count_ones(self) -> u8
@@ -125,6 +129,11 @@ impl ScalarBitSetStorage for u8 {
     #[inline]
     fn trailing_zeros(self) -> u8 {
         u8::trailing_zeros(self) as u8
+    }
+
+    #[inline]
+    fn without_lowest(self) -> u8 {
+        self & self.wrapping_sub(1)
     }
 
     #[inline]
@@ -192,6 +201,11 @@ impl ScalarBitSetStorage for u16 {
     }
 
     #[inline]
+    fn without_lowest(self) -> u16 {
+        self & self.wrapping_sub(1)
+    }
+
+    #[inline]
     fn count_ones(self) -> u8 {
         u16::count_ones(self) as u8
     }
@@ -253,6 +267,11 @@ impl ScalarBitSetStorage for u32 {
     #[inline]
     fn trailing_zeros(self) -> u8 {
         u32::trailing_zeros(self) as u8
+    }
+
+    #[inline]
+    fn without_lowest(self) -> u32 {
+        self & self.wrapping_sub(1)
     }
 
     #[inline]
@@ -320,6 +339,11 @@ impl ScalarBitSetStorage for u64 {
     }
 
     #[inline]
+    fn without_lowest(self) -> u64 {
+        self & self.wrapping_sub(1)
+    }
+
+    #[inline]
     fn count_ones(self) -> u8 {
         u64::count_ones(self) as u8
     }
@@ -384,6 +408,11 @@ impl ScalarBitSetStorage for u128 {
     }
 
     #[inline]
+    fn without_lowest(self) -> u128 {
+        self & self.wrapping_sub(1)
+    }
+
+    #[inline]
     fn count_ones(self) -> u8 {
         u128::count_ones(self) as u8
     }
@@ -445,6 +474,11 @@ impl ScalarBitSetStorage for usize {
     #[inline]
     fn trailing_zeros(self) -> u8 {
         usize::trailing_zeros(self) as u8
+    }
+
+    #[inline]
+    fn without_lowest(self) -> usize {
+        self & self.wrapping_sub(1)
     }
 
     #[inline]

@@ -92,6 +92,15 @@ fn a_walk_rises_and_gives_one_from_the_back(rt: HostRuntime) -> Result<(), Fail>
     Ok(())
 }
 
+// The lowest and the highest place, popped one by one.
+fn pops_its_edges<T: ScalarBitSetStorage>(rt: &impl Abort, last: u8) {
+    let mut set: ScalarBitSet<T> = set_of_places(&[0, last]);
+    assert_eq!(rt; set.pop_min(), Some(0));
+    assert_eq!(rt; set.pop_min(), Some(last));
+    assert_eq!(rt; set.pop_min(), None);
+    assert!(rt; ScalarBitSet(T::zero().without_lowest()).is_empty());
+}
+
 // A storage at its edges, through its bound: `last` is its highest place.
 fn holds_its_edges<T: ScalarBitSetStorage>(rt: &impl Abort, last: u8)
     requires { last < 255 }
@@ -115,6 +124,7 @@ fn holds_its_edges<T: ScalarBitSetStorage>(rt: &impl Abort, last: u8)
     assert!(rt; set == ScalarBitSet::from_range(last + 1, last + 1));
     assert!(rt; set != ScalarBitSet::from_range(0, last + 1));
     assert_eq!(rt; ScalarBitSet::<T>::from_range(0, last + 1).len(), last + 1);
+    pops_its_edges::<T>(rt, last);
 }
 
 #[test]
