@@ -64,7 +64,7 @@ pub trait ScalarBitSetStorage: Copy {
     fn trailing_zeros(self) -> u8
         ensures { IsLowZeros width (number self) result };
 
-    /// The digits but the lowest 1, in two instructions: 0 stays 0.
+    /// The digits but the lowest 1: 0 stays 0. It costs a subtraction and an `&`.
     fn without_lowest(self) -> Self
         ensures { IsWithoutLowest width (number self) (number result) };
 
