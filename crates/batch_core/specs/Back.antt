@@ -48,7 +48,7 @@ module _ {T : Type 0} where
   undo_record (Cut value) contents = record contents { list = contents.list ++ value ∷ [] }
   undo_record (Truncated removed) contents = contents
 
-  -- the contents once all these records are undone, the last one first
+  -- the contents once all these records are undone, the newest first
   abbrev pub undo_all : List (Record T) → Contents T → Contents T
   undo_all [] contents = contents
   undo_all (first ∷ records) contents = undo_record first (undo_all records contents)

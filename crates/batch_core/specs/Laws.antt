@@ -9,7 +9,7 @@ use Rattle.batch_core.specs.declared.command.Command.{Command}
 use Rattle.batch_core.specs.declared.command.Command.TheVariants.{Alloc}
 use Rattle.batch_core.specs.declared.record.Record.{Record}
 
--- undoing the records of an admitted command, the last one first, on the contents after it gives the contents before it
+-- undoing the records of an admitted command, the newest first, on the contents after it gives the contents before it
 abbrev pub UndoingGoesBack : Type 0 → Type 0
 UndoingGoesBack T =
     (contents : Contents T) (command : Command T)

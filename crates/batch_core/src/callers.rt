@@ -1,11 +1,12 @@
 //! Callers of a workspace, proved from its contracts and laws alone.
-ghost use Rattle.std.specs.Prelude.{◌≡◌, ◌<◌, ◌≤◌, ◌++◌, length, IsOk, IsTrue, OnOk};
+ghost use Rattle.std.specs.Prelude.{◌≡◌, ◌<◌, ◌≤◌, ◌++◌, ◌∷◌, [], length, IfErr, IsOk, IsTrue, OnOk};
 ghost use Rattle.std.specs.FinMap.{len};
 ghost use Rattle.batch_core.specs.Back.{back};
 ghost use Rattle.batch_core.specs.Command.{effect_of, records_of};
 ghost use Rattle.batch_core.specs.Many.{contents_after_all, AllFit};
+ghost use Rattle.batch_core.specs.Workspace.{IsOom};
 
-use crate::answer::ReserveRefusal;
+use crate::answer::{Done, Refusal, ReserveRefusal};
 use crate::command::{Batch, Cause, Command};
 use crate::laws::{law_alloc_adds_one, law_back_in_two, law_larger_room, law_same_contents};
 use crate::workspace::Workspace;
@@ -70,8 +71,32 @@ pub fn hold_within<T: Drop>(workspace: &mut Workspace<T>, value: T) -> Result<()
     ensures held { IsOk result }
 {
     law_alloc_adds_one::<T>();
+    // For the proof: the contents are sound and within the capacities, and no capacity is below the room.
     let _ = workspace.mark();
     workspace.step(Command::Alloc(value))
+}
+
+// Applies a batch of one command: if it is refused for a cause, that command is the bad one.
+pub fn apply_one<T: Drop>(workspace: &mut Workspace<T>, batch: Batch<T>) -> Result<Done, Refusal>
+    requires one { length batch.commands.items ≡ 1 }
+    ensures at { IfErr result (λ r. ¬ IsOom r.cause → r.at ≡ 1) }
+{
+    workspace.apply(batch)
+}
+
+// Holds a value by a batch of its own while there is room for one more: the batch fits, so memory doesn't refuse it.
+pub fn hold_by_batch<T: Drop>(
+    workspace: &mut Workspace<T>,
+    batch: Batch<T>,
+) -> Result<Done, Refusal>
+    requires one { (value : T) × (batch.commands.items ≡ Command.Alloc value ∷ []) }
+    requires room { len workspace.old.contents.live < workspace.old.room }
+    ensures fits { IfErr result (λ r. ¬ IsOom r.cause) }
+{
+    law_alloc_adds_one::<T>();
+    // For the proof: the contents are sound.
+    let _ = workspace.mark();
+    workspace.apply(batch)
 }
 
 // Whether two workspaces of numbers have the same contents: then their lists are equal.

@@ -364,7 +364,7 @@ impl<T: Drop> Store<T> {
         Ok(())
     }
 
-    /// Undoes the records after the mark, the last one first, and drops them. It allocates nothing.
+    /// Undoes the records after the mark, the newest first, and drops them. It allocates nothing.
     pub fn back_to(&mut self, mark: usize)
         requires mark { mark ≤ length self.old.records }
         requires can { CanGoBack self.old.capacities self.old.records self.old.contents }

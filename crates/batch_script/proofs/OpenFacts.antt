@@ -35,11 +35,11 @@ module _ {B : Type 0} (printing : Printing B) where
       ≡ all_lines_over printing xs ++ all_lines_over printing ys
   all_lines-append xs ys = flat_map-append (printed_over printing) xs ys
 
-  -- a front of lines that begin a script begins one too
+  -- a prefix of lines that begin a script begins one too
   pub IsOpen-front : (front rest : List Line) → IsOpenOver printing (front ++ rest) → IsOpenOver printing front
   IsOpen-front front rest opened = (opened.0, rest ++ opened.1, opened.2, sym (append_assoc front rest opened.1) ∙ opened.3)
 
-  -- each front of the lines of a script begins a script
+  -- each prefix of the lines of a script begins a script
   pub IsOpen-script : (input : List ℕ) (count : ℕ) → IsScriptOver printing input → IsOpenOver printing (take count (lines_of input))
   IsOpen-script input count script =
       (script.0, drop count (lines_of input), script.1.valid, take-append-drop count (lines_of input) ∙ script.1.lines)

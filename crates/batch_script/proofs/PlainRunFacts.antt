@@ -22,7 +22,7 @@ reserve_keeps true state number test more =
     let within : ¬ (state.room < number) = λ above. more (above, least) in omega arith
 reserve_keeps false state number test more = refl
 
--- a reservation is never answered by want of memory
+-- the reply to a reservation is never out of memory
 reserve_answers : (within : Bool) (state : State ℕ) (number : ℕ) → (reserve_by within state number).0 ≢ no_memory
 reserve_answers true state number = λ same. cc
 reserve_answers false state number = λ same. cc
@@ -71,7 +71,7 @@ module _ {B : Type 0} (bodies : Bodies B) where
   plain_replies_plain state [] = tt
   plain_replies_plain state (item ∷ items) = (plain_answers state item, plain_replies_plain (step_over bodies state item).1 items)
 
-  -- a step that isn't answered by want of memory is the plain one
+  -- a step whose reply isn't out of memory is the plain one
   answered_is_plain : (state : State ℕ) (item : ItemOf B) (reply : Reply) (next : State ℕ) → ItemStepOver bodies state item reply next
       → reply ≢ no_memory → (reply, next) ≡ step_over bodies state item
   answered_is_plain state item reply next (inl plain) found = plain

@@ -41,7 +41,7 @@ module _ {B : Type 0} (bodies : Bodies B) (old new : Workspace ℕ) (body : B) (
   batch_step outcome came =
       inl (rw came (λ t. (answered outcome, record { contents = new.contents; room = same_room t })))
 
-  -- a batch was refused for a cause, which is no want of memory
+  -- a batch was refused for a cause other than out of memory
   pub refused_step : (cause : Cause) (at : ℕ) (why : BatchKind) → kind_of_cause cause ≡ Some why
       → new.contents ≡ old.contents → RefusedOver bodies old body ending cause at
       → ItemStepOver bodies (state_of old) (batch body ending) (answered (refused (record { cause = cause; at = at }))) (state_of new)

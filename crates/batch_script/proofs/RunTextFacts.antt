@@ -22,11 +22,11 @@ reply_text reply = text_of_lines (reply_lines reply)
 text-cons : (reply : Reply) (replies : List Reply) → text_of (reply ∷ replies) ≡ reply_text reply ++ text_of replies
 text-cons reply replies = flat_map-append _ (reply_lines reply) _
 
--- the text begins with the letters that tell want of memory from all else: `..f......o`
+-- the text begins with the letters that tell out of memory from all else: `..f......o`
 abbrev tells_no_memory : List ℕ → Bool
 tells_no_memory text = nat_eq (get_or text 2 0) 102 && nat_eq (get_or text 9 0) 111
 
--- what a batch came to doesn't tell want of memory
+-- what a batch came to doesn't tell out of memory
 batch_tells : (outcome : Outcome ℕ) (rest : List ℕ) → tells_no_memory (text_of_lines (outcome_lines outcome) ++ rest) ≡ false
 batch_tells (committed []) rest = refl
 batch_tells (committed (Pushed ∷ records)) rest = refl
@@ -59,7 +59,7 @@ module _ {B : Type 0} (bodies : Bodies B) where
   plain_tells state (batch body ending) rest beyond =
       batch_tells (outcome_of state.contents (bodies.course state.contents body) ending).0 rest
 
-  -- the text of a plain reply and that of want of memory are apart, whatever follows them
+  -- the text of a plain reply and that of out of memory are apart, whatever follows them
   texts_apart : (state : State ℕ) (item : ItemOf B) (rest more : List ℕ) → IsBeyondOver bodies state item
       → reply_text (step_over bodies state item).0 ++ rest ≡ reply_text no_memory ++ more → ⊥
   texts_apart state item rest more beyond same =

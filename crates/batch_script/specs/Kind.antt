@@ -26,7 +26,7 @@ kind_text TooLarge = codes "number is too large"
 kind_text (Command at) = codes "command " ++ decimal at
 kind_text Reserve = codes "reserve"
 
--- the kind of a cause, if it has one: want of memory has none
+-- the kind of a cause, if it has one: out of memory has none
 abbrev pub kind_of_cause : Cause → Option BatchKind
 kind_of_cause cause.Empty = Some Empty
 kind_of_cause cause.Position = Some Position

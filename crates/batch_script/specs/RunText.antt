@@ -20,7 +20,7 @@ IsRunTextOver {B} bodies printing input text =
 abbrev pub IsRunText : List ℕ → List ℕ → Type 0
 IsRunText = IsRunTextOver batches batch_printing
 
--- the room is enough for the text of each run of the script, and for the line of want of memory
+-- the room is enough for the text of each run of the script, and for the line of out of memory
 pub record HoldsReplies (room : ℕ) (input : List ℕ) : Type 0 where
   pub holds_runs : (text : List ℕ) → IsRunText input text → length text ≤ room
   pub holds_refusal : length (text_of_lines (codes "error: out of memory" ∷ [])) ≤ room

@@ -6,6 +6,7 @@ ghost use Rattle.batch_script.specs.Headline.{RunsWhole, WantsMemory};
 ghost use Rattle.batch_script.specs.Machine.{PlainItem};
 ghost use Rattle.batch_script.specs.RunText.{HoldsReplies};
 ghost use Rattle.batch_script.specs.Status.{IsAmong};
+ghost use Rattle.batch_script.specs.Words.{AsksForRun};
 ghost use Rattle.batch_script.specs.declared.program.Status.{Status};
 ghost use Rattle.batch_script.specs.declared.program.TheConstants.{INPUT_LIMIT};
 
@@ -39,18 +40,37 @@ pub fn run_in_memory(
     Ok((status, sink))
 }
 
-/// Serves a script from any source to any sink, once. Whatever they do, only four statuses are possible, and a quiet source leaves
-/// three.
+/// Serves an input from any source to any sink, once. Whatever they do, only four statuses are possible for a script, and four for an
+/// input that is none. A quiet source leaves three.
 pub fn serve_script<S: Source, K: Sink>(alloc: Global, source: &mut S, sink: &mut K) -> Status
     requires can_read { S.can_call source.old }
     requires can_write { K.can_call sink.old }
     ensures ends { (input : List ℕ) → S.left source.old ≡ Some input → length input ≤ INPUT_LIMIT
         → IsScript input
         → IsAmong (Status.Done ∷ Status.Oom ∷ Status.ReadFault ∷ Status.WriteFault ∷ []) result }
+    ensures no_script { (input : List ℕ) → S.left source.old ≡ Some input
+        → length input ≤ INPUT_LIMIT → ¬ IsScript input
+        → IsAmong (Status.Syntax ∷ Status.Oom ∷ Status.ReadFault ∷ Status.WriteFault ∷ []) result }
     ensures no_read_fault { ¬ HasFaults (use_of S.left S.faults source.old source.new)
         → result ≢ Status.ReadFault }
 {
     top(alloc, &TryVec::new(alloc), source, sink)
+}
+
+/// Runs the script that two numbers make, and offers its summary to any sink: only three statuses are possible, and nothing is read.
+pub fn serve_generated<S: Source, K: Sink>(
+    alloc: Global,
+    words: &TryVec<TryString>,
+    source: &mut S,
+    sink: &mut K,
+) -> Status
+    requires can_read { S.can_call source.old }
+    requires can_write { K.can_call sink.old }
+    ensures ends { (seed count : ℕ) → AsksForRun words.now.items seed count
+        → IsAmong (Status.Done ∷ Status.Oom ∷ Status.WriteFault ∷ []) result }
+    ensures source_stays { words.now.items ≢ [] → source.new ≡ source.old }
+{
+    top(alloc, words, source, sink)
 }
 
 /// Puts in a member, holds a value, and shows both: the text is known, letter by letter.

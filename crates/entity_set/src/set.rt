@@ -236,6 +236,7 @@ fn index_of<K: EntityRef>(k: K) -> usize
     ensures below { result < K.limit }
     ensures at_most { result ≤ 4294967295 }
 {
+    // For the proof: the number is below the limit, which is at most 4294967296.
     let limit = K::limit();
     let number = k.index();
     prove!(number < limit);

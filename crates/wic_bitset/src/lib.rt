@@ -26,7 +26,7 @@
 //!
 //! A set grows to its greatest number: one of `u64` with the one member 4294967295 takes 512 MiB for its words, 8 MiB for the first
 //! level of its summary, and 65 KiB for the levels above. Check numbers from untrusted callers before you insert them. `clear` and
-//! `remove` give no memory back. The first growth of a set takes five allocations, one for each level.
+//! `remove` give no memory back. The first growth of a set takes five allocations: its words, and four levels of the summary.
 //!
 //! # Costs
 //!
@@ -36,7 +36,7 @@
 //! | `insert` | constant, or a few steps per level into an empty word; growths copy no more words in all than there are in the end |
 //! | `remove`, `pop` | constant, and a few steps per level if a word becomes empty or the maximum goes |
 //! | `iter`, `len`, `hash`, `clear`, `==` | each word that has a member, and a few steps per level for it |
-//! | `members` | each summary word and each word that has a member, at most once: this is a clause |
+//! | `members` | each summary word and each word that has a member, at most once; a clause bounds the number of counted reads |
 //! | `intersect_with`, `subtract`, `is_subset`, `is_disjoint` | each word here that has a member, and a few steps per level for it |
 //! | `union_with` | each word of the other that has a member, and a few steps per level for it; growths as for `insert` |
 //! | `iter_scalars`, `try_clone` | the words |

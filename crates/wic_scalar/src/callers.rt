@@ -32,7 +32,7 @@ pub fn starts_at_the_least<T: ScalarBitSetStorage>(set: ScalarBitSet<T>) -> bool
     set.iter().next() == set.min()
 }
 
-// The number of free places in a range.
+// The number of places in a range.
 pub fn taken_in_range(lo: u8, hi: u8) -> u8
     requires ordered { lo ≤ hi }
     requires within { hi ≤ 64 }
