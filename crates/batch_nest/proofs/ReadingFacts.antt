@@ -1,7 +1,7 @@
 -- What a line does to what was read of a script of nests, and where reading stops.
 use Rattle.std.proofs.Common.{◌≡◌, ◌≢◌, ℕ, List, [], ◌∷◌, ◌++◌, map, refl, sym, ap, ◌∙◌, subst, Some, None}
 use Rattle.std.proofs.lemmas.List.{map-append}
-use Rattle.std.specs.Prelude.{Option, codes}
+use Rattle.std.specs.Prelude.{IsSome, Option, codes}
 use Rattle.std.specs.List.{AllByRecursion}
 use Rattle.batch_core.specs.declared.command.Command.{Command}
 use Rattle.batch_core.specs.declared.command.End.{End}
@@ -9,7 +9,7 @@ use Rattle.batch_core.specs.declared.command.End.TheVariants.{Commit, Abort}
 use Rattle.batch_script.specs.Grammar.{Line, IsValidItemOver, IsWritable, line_of, lines_of, printed_over}
 use Rattle.batch_script.specs.Grammar.{end_line as written_end, numbers_of, word_of}
 use Rattle.batch_script.specs.Machine.{PlainItem, reserve, show, batch}
-use Rattle.batch_script.specs.Reading.{HasParts, first_numbers, first_word, open_lines_over}
+use Rattle.batch_script.specs.Reading.{HasParts, TakesLineOver, first_numbers, first_word, open_lines_over}
 use Rattle.batch_script.specs.ReadingLaws.{AllByRecursion-append}
 use Rattle.batch_script.proofs.LineFacts.{line_of_none}
 use Rattle.batch_script.proofs.ReadingFacts.{begun_is_no_script, parts_start_none, read_item, read_on, stuck_inside, stuck_outside}
@@ -18,9 +18,10 @@ use Rattle.batch_nest.specs.declared.item.NestItem.TheVariants.{Reserve, Show}
 use Rattle.batch_nest.specs.declared.nest.NestLine.{NestLine}
 use Rattle.batch_nest.specs.declared.nest.NestLine.TheVariants.{Command as CommandLine, Begin as BeginLine}
 use Rattle.batch_nest.specs.declared.nest.NestLine.TheVariants.{Commit as CommitLine, Abort as AbortLine}
+use Rattle.batch_nest.specs.declared.parser.NestReading.{NestReading}
 use Rattle.batch_nest.specs.declared.parser.OpenNest.{OpenNest}
 use Rattle.batch_nest.specs.Nest.{IsBalanced, end_line}
-use Rattle.batch_nest.specs.Reading.{HaveRead, IsOpenNest, StandFor, StandsForItem, open_printing}
+use Rattle.batch_nest.specs.Reading.{HasReadNests, HaveRead, IsOpenNest, StandFor, StandsForItem, TakesNestLine, open_printing}
 use Rattle.batch_nest.specs.ReadingLaws.{one_line_word}
 use Rattle.batch_nest.specs.Script.{PlainNestItem, IsNestOpen, IsNestScript, IsValidLine}
 use Rattle.batch_nest.specs.Script.{line_numbers, line_word, nest_printing, printed_line}
@@ -78,6 +79,20 @@ read_nest_line items begun next lines line was valid is goes_on =
           (ap (map printed_line) is ∙ map-append printed_line front (line ∷ [])),
     )
 
+-- what takes a line of a nest takes one of its word and its numbers
+pub takes_parts : (old new : NestReading) (known : NestLine ℕ) (word numbers : List ℕ) → word ≡ line_word known
+    → numbers ≡ line_numbers known → TakesNestLine old new known
+    → TakesLineOver HasReadNests HasReadNests old new word numbers
+takes_parts old new known word numbers is are takes = λ lines line has was.
+    subst (λ line. HasReadNests new (lines ++ line ∷ [])) (sym (has.same ∙ (λ i. line_of (is i) (are i))))
+    (takes lines (subst (AllByRecursion IsWritable) are has.writable) was)
+
+-- so with the word of an end and no numbers
+pub takes_end_word : (old new : NestReading) (ending : End) (word numbers : List ℕ) → word ≡ written_end ending → numbers ≡ []
+    → TakesNestLine old new (end_line ending) → TakesLineOver HasReadNests HasReadNests old new word numbers
+takes_end_word old new Commit word numbers = takes_parts old new CommitLine word numbers
+takes_end_word old new Abort word numbers = takes_parts old new AbortLine word numbers
+
 -- the end of the nest that has begun
 pub read_nest_end : (items : List NestItem) (item : NestItem) (begun : OpenNest) (lines : List Line) (ending : End)
     → HaveRead items (Some begun) lines → begun.depth ≡ 0
@@ -89,15 +104,22 @@ read_nest_end items item begun lines ending was none stands =
     (subst (AllByRecursion IsValidLine) balanced.1 was.2.valid_open.valid)
     (λ i. codes "begin" ∷ (map printed_line (balanced.1 i) ++ printed_end ending i ∷ []))
 
--- a word and numbers that are no command, end no batch and start no item are no line of a nest
+-- a word and numbers that are no command, end no batch and begin none are no line of a nest
 pub no_line_word : (word numbers : List ℕ) → ((command : Command ℕ) → numbers_of command ≡ numbers → word_of command ≢ word)
-    → ((ending : End) → numbers ≡ [] → written_end ending ≢ word)
-    → ((item : PlainItem) → first_numbers item ≡ numbers → first_word item ≢ word)
+    → ((ending : End) → numbers ≡ [] → written_end ending ≢ word) → (numbers ≡ [] → codes "begin" ≢ word)
     → (line : NestLine ℕ) → line_numbers line ≡ numbers → line_word line ≢ word
-no_line_word word numbers no_command no_end no_start (CommandLine command) = no_command command
-no_line_word word numbers no_command no_end no_start BeginLine = no_start (batch [] Commit)
-no_line_word word numbers no_command no_end no_start CommitLine = λ are. no_end Commit (sym are)
-no_line_word word numbers no_command no_end no_start AbortLine = λ are. no_end Abort (sym are)
+no_line_word word numbers no_command no_end no_begin (CommandLine command) = no_command command
+no_line_word word numbers no_command no_end no_begin BeginLine = λ are. no_begin (sym are)
+no_line_word word numbers no_command no_end no_begin CommitLine = λ are. no_end Commit (sym are)
+no_line_word word numbers no_command no_end no_begin AbortLine = λ are. no_end Abort (sym are)
+
+-- a show is no begin
+pub show_word : (word : List ℕ) → word ≡ codes "show" → codes "begin" ≢ word
+show_word word is same = absurd (let bad : codes "begin" ≡ codes "show" = same ∙ is in cc)
+
+-- one number is not none
+pub some_number : (number : ℕ) (numbers : List ℕ) → numbers ≡ number ∷ [] → numbers ≢ []
+some_number number numbers are none = absurd (cc)
 
 -- the line after these is no first line of an item
 pub stuck_outside_nests : (items : List NestItem) (lines : List Line) (line word numbers : List ℕ) → HaveRead items None lines
@@ -108,10 +130,11 @@ stuck_outside_nests items lines line word numbers was has never =
     (parts_start_none nest_printing line word numbers has never)
 
 -- in a nest only a line of a nest goes on
-pub stuck_in_nest : (items : List NestItem) (begun : OpenNest) (lines : List Line) (line word numbers : List ℕ)
-    → HaveRead items (Some begun) lines → HasParts line word numbers
+pub stuck_in_nest : (items : List NestItem) (begun : Option OpenNest) (lines : List Line) (line word numbers : List ℕ)
+    → IsSome begun → HaveRead items begun lines → HasParts line word numbers
     → ((known : NestLine ℕ) → line_numbers known ≡ numbers → line_word known ≢ word) → ¬ IsNestOpen (lines ++ line ∷ [])
-stuck_in_nest items begun lines line word numbers was has never =
+stuck_in_nest items None lines line word numbers some was has never = absurd (cc)
+stuck_in_nest items (Some begun) lines line word numbers some was has never =
     let valid = was.2.valid_open in
     stuck_inside nest_printing open_printing nests_told was.0 lines begun was.2 line (λ rest whole.
     let goes = next_in_nest begun.lines.items begun.depth valid.valid valid.balanced line rest whole in

@@ -1,5 +1,5 @@
 -- What the parser has read so far of a script of nests, as plain items and lines.
-use Rattle.std.specs.Prelude.{⊤, ◌≡◌, ℕ, zero, suc, List, [], ◌∷◌, ◌++◌, map, Option, Some}
+use Rattle.std.specs.Prelude.{⊤, ◌≡◌, ℕ, zero, suc, List, [], ◌∷◌, ◌++◌, map, Option}
 use Rattle.std.specs.List.{AllByRecursion}
 use Rattle.batch_script.specs.Grammar.{Line, Printing}
 use Rattle.batch_script.specs.Machine.{reserve, show, batch}
@@ -55,8 +55,7 @@ HaveRead items begun lines =
 abbrev pub HasReadNests : NestReading → List Line → Type 0
 HasReadNests reading lines = HaveRead reading.items.items reading.begun lines
 
--- where the reading had taken lines and begun this nest, it takes this line of it behind them
-abbrev pub TakesNestLine : NestReading → OpenNest → NestReading → NestLine ℕ → Type 0
-TakesNestLine old begun new line =
-    (lines : List Line) → IsValidLine line → HaveRead old.items.items (Some begun) lines
-    → HasReadNests new (lines ++ printed_line line ∷ [])
+-- where the reading had taken lines, it takes this line of a nest behind them
+abbrev pub TakesNestLine : NestReading → NestReading → NestLine ℕ → Type 0
+TakesNestLine old new line =
+    (lines : List Line) → IsValidLine line → HasReadNests old lines → HasReadNests new (lines ++ printed_line line ∷ [])

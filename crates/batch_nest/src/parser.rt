@@ -1,9 +1,10 @@
 //! Reads a script of nests: its lines one after the other, as lines of a nest and items.
-ghost use Rattle.std.specs.Prelude.{◌≡◌, ◌≢◌, ◌++◌, ◌∷◌, ℕ, [], None, IfSome, IfNone, IfOk, IfErr, OnOk, Err};
-ghost use Rattle.batch_script.specs.Grammar.{IsScriptOfSome};
+ghost use Rattle.std.specs.Prelude.{◌≡◌, ◌≢◌, ◌++◌, ◌∷◌, ◌+◌, ◌<◌, ℕ, [], None, IsSome, IfOk, IfErr, OnOk, Err};
+ghost use Rattle.batch_core.specs.declared.command.Command.{Command};
+ghost use Rattle.batch_script.specs.Grammar.{IsScriptOfSome, numbers_of, word_of};
 ghost use Rattle.batch_script.specs.Reading.{RefusesLineOver, TakesLineOver, listed};
 ghost use Rattle.batch_nest.specs.Reading.{HasReadNests, StandFor, TakesNestLine};
-ghost use Rattle.batch_nest.specs.Script.{IsNestJustified, line_numbers, line_word, nest_printing};
+ghost use Rattle.batch_nest.specs.Script.{IsNestJustified, nest_printing};
 ghost use Rattle.batch_nest.specs.declared.nest.NestLine.{NestLine};
 ghost use Rattle.batch_nest.specs.Nest.{end_line};
 
@@ -17,26 +18,6 @@ use std::alloc::Global;
 use wic_base::OutOfMemory;
 use wic_vec::TryVec;
 
-/// The line of a nest that is this word and these numbers.
-fn nest_line_of(word: &[u8], numbers: Numbers) -> Option<NestLine<u64>>
-    ensures some { IfSome result (λ line. (word.now ≡ line_word line)
-        × (listed numbers ≡ line_numbers line)) }
-    ensures none { IfNone result ((line : NestLine ℕ) → line_numbers line ≡ listed numbers
-        → line_word line ≢ word.now) }
-{
-    match command_of(word, numbers) {
-        Some(command) => Some(NestLine::Command(command)),
-        None => match end_of(word, numbers) {
-            Some(End::Commit) => Some(NestLine::Commit),
-            Some(End::Abort) => Some(NestLine::Abort),
-            None => match start_of(word, numbers) {
-                Some(Start::Begin) => Some(NestLine::Begin),
-                _ => None,
-            },
-        },
-    }
-}
-
 /// A nest that has begun and not ended: its lines so far, and how many of its inner batches are open.
 #[derive(Drop)]
 pub(crate) struct OpenNest {
@@ -45,14 +26,35 @@ pub(crate) struct OpenNest {
 }
 
 impl OpenNest {
-    /// Puts a line behind the others, after which so many inner batches are open.
-    fn with(self, line: NestLine<u64>, depth: usize) -> Result<OpenNest, OutOfMemory>
-        ensures lines { IfOk result (λ more. more.lines.items ≡ self.lines.items ++ line ∷ []) }
-        ensures depth { IfOk result (λ more. more.depth ≡ depth) }
+    /// Puts a begin behind the lines: one more batch is open then. No depth is beyond the greatest number, as its lines would find
+    /// no memory.
+    fn begin_inner(&mut self) -> Result<(), OutOfMemory>
+        ensures adds { OnOk result (
+            (self.new.lines.items ≡ self.old.lines.items ++ NestLine.Begin ∷ [])
+            × (self.new.depth ≡ self.old.depth + 1)) }
     {
-        let OpenNest { mut lines, .. } = self;
-        lines.push(line)?;
-        Ok(OpenNest { lines, depth })
+        let Some(depth) = self.depth.checked_add(1) else {
+            return Err(OutOfMemory::new(usize::MAX));
+        };
+        self.lines.push(NestLine::Begin)?;
+        self.depth = depth;
+        Ok(())
+    }
+
+    /// Puts the end of the innermost open batch behind the lines: one batch less is open then.
+    fn end_inner(&mut self, end: End) -> Result<(), OutOfMemory>
+        requires some_open { 0 < self.old.depth }
+        ensures adds { OnOk result (
+            (self.new.lines.items ≡ self.old.lines.items ++ end_line end ∷ [])
+            × (self.old.depth ≡ self.new.depth + 1)) }
+    {
+        let line = match end {
+            End::Commit => NestLine::Commit,
+            End::Abort => NestLine::Abort,
+        };
+        self.lines.push(line)?;
+        self.depth -= 1;
+        Ok(())
     }
 }
 
@@ -91,41 +93,54 @@ impl NestReading {
         Ok(())
     }
 
-    /// Goes on by an end: of the innermost batch that is open, or of the nest if none is.
-    fn take_end(&mut self, begun: OpenNest, end: End) -> Result<(), OutOfMemory>
-        requires none { self.old.begun ≡ None }
-        ensures ok { OnOk result (TakesNestLine self.old begun self.new (end_line end)) }
+    /// Goes on by a line of this word and these numbers, which is no command, if a nest has begun.
+    fn take_bound(&mut self, word: &[u8], numbers: Numbers) -> Result<(), LineRefusal>
+        requires some { IsSome self.old.begun }
+        requires no_command { (command : Command ℕ) → numbers_of command ≡ listed numbers
+            → word_of command ≢ word.now }
+        ensures ok { OnOk result
+            (TakesLineOver HasReadNests HasReadNests self.old self.new word.now (listed numbers)) }
+        ensures syntax { result ≡ Err LineRefusal.Syntax
+            → RefusesLineOver nest_printing HasReadNests self.old word.now (listed numbers) }
     {
-        if begun.depth == 0 {
-            let lines = begun.lines;
-            return self.items.push(NestItem::Nest(Nest { lines, end }));
+        match end_of(word, numbers) {
+            Some(end) => Ok(self.take_end(end)?),
+            None => match start_of(word, numbers) {
+                Some(Start::Begin) => Ok(self.take_begin()?),
+                // Neither a reservation nor a show stands in a batch.
+                Some(Start::Reserve(_)) => Err(LineRefusal::Syntax),
+                Some(Start::Show) => Err(LineRefusal::Syntax),
+                None => Err(LineRefusal::Syntax),
+            },
         }
-        let depth = begun.depth - 1;
-        let line = match end {
-            End::Commit => NestLine::Commit,
-            End::Abort => NestLine::Abort,
-        };
-        self.begun = Some(begun.with(line, depth)?);
-        Ok(())
     }
 
-    /// Goes on by a line of the nest that has begun. No depth is beyond the greatest number, as its lines would find no memory.
-    fn take_inside(&mut self, begun: OpenNest, line: NestLine<u64>) -> Result<(), OutOfMemory>
-        requires none { self.old.begun ≡ None }
-        ensures ok { OnOk result (TakesNestLine self.old begun self.new line) }
+    /// Goes on by a begin if a nest has begun.
+    fn take_begin(&mut self) -> Result<(), OutOfMemory>
+        requires some { IsSome self.old.begun }
+        ensures ok { OnOk result (TakesNestLine self.old self.new NestLine.Begin) }
     {
-        let depth = begun.depth;
-        let deeper = match line {
-            NestLine::Commit => return self.take_end(begun, End::Commit),
-            NestLine::Abort => return self.take_end(begun, End::Abort),
-            NestLine::Begin => match depth.checked_add(1) {
-                Some(deeper) => deeper,
-                None => return Err(OutOfMemory::new(usize::MAX)),
-            },
-            NestLine::Command(_) => depth,
+        match &mut self.begun {
+            Some(begun) => begun.begin_inner(),
+            None => Ok(()),
+        }
+    }
+
+    /// Goes on by an end if a nest has begun: of the innermost batch that is open, or of the nest if none is.
+    fn take_end(&mut self, end: End) -> Result<(), OutOfMemory>
+        requires some { IsSome self.old.begun }
+        ensures ok { OnOk result (TakesNestLine self.old self.new (end_line end)) }
+    {
+        let Some(begun) = &mut self.begun else {
+            return Ok(());
         };
-        self.begun = Some(begun.with(line, deeper)?);
-        Ok(())
+        if begun.depth > 0 {
+            return begun.end_inner(end);
+        }
+        match self.begun.take() {
+            Some(OpenNest { lines, .. }) => self.items.push(NestItem::Nest(Nest { lines, end })),
+            None => Ok(()),
+        }
     }
 }
 
@@ -158,11 +173,11 @@ impl LineReader for NestReading {
     }
 
     fn take(&mut self, alloc: Global, word: &[u8], numbers: Numbers) -> Result<(), LineRefusal> {
-        match self.begun.take() {
+        match &mut self.begun {
             None => self.take_outside(alloc, word, numbers),
-            Some(begun) => match nest_line_of(word, numbers) {
-                Some(line) => Ok(self.take_inside(begun, line)?),
-                None => Err(LineRefusal::Syntax),
+            Some(begun) => match command_of(word, numbers) {
+                Some(command) => Ok(begun.lines.push(NestLine::Command(command))?),
+                None => self.take_bound(word, numbers),
             },
         }
     }
