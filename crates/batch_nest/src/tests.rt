@@ -39,7 +39,6 @@ fn is_empty(space: &NestSpace<u64>) -> bool {
 #[test]
 fn an_inner_abort_gives_up_the_inner_part_alone(rt: HostRuntime) -> Result<(), Fail> {
     let alloc = rt.alloc();
-    let mut space = NestSpace::new(alloc);
     let lines = vec![in alloc;
         NestLine::Command(Command::Push(1)),
         NestLine::Begin,
@@ -48,6 +47,7 @@ fn an_inner_abort_gives_up_the_inner_part_alone(rt: HostRuntime) -> Result<(), F
         NestLine::Abort,
         NestLine::Command(Command::Push(3)),
     ]?;
+    let mut space = NestSpace::new(alloc);
     assert!(rt; is_committed(&mut space, lines));
     assert_eq!(rt; space.list(), [1, 3].as_slice());
     assert!(rt; space.table().is_empty());
@@ -62,7 +62,6 @@ fn an_inner_abort_gives_up_the_inner_part_alone(rt: HostRuntime) -> Result<(), F
 #[test]
 fn a_bad_command_in_an_aborted_part_refuses_the_whole(rt: HostRuntime) -> Result<(), Fail> {
     let alloc = rt.alloc();
-    let mut space = NestSpace::new(alloc);
     let lines = vec![in alloc;
         NestLine::Command(Command::Push(1)),
         NestLine::Begin,
@@ -70,6 +69,7 @@ fn a_bad_command_in_an_aborted_part_refuses_the_whole(rt: HostRuntime) -> Result
         NestLine::Command(Command::Pop),
         NestLine::Abort,
     ]?;
+    let mut space = NestSpace::new(alloc);
     assert!(rt;
         matches!(
             &applied(&mut space, nest(lines, End::Commit)),
@@ -86,13 +86,13 @@ fn a_bad_command_in_an_aborted_part_refuses_the_whole(rt: HostRuntime) -> Result
 #[test]
 fn an_outer_abort_gives_up_committed_parts(rt: HostRuntime) -> Result<(), Fail> {
     let alloc = rt.alloc();
-    let mut space = NestSpace::new(alloc);
     let lines = vec![in alloc;
         NestLine::Begin,
         NestLine::Command(Command::Push(1)),
         NestLine::Command(Command::Insert(9)),
         NestLine::Commit,
     ]?;
+    let mut space = NestSpace::new(alloc);
     assert!(rt;
         matches!(
             &applied(&mut space, nest(lines, End::Abort)),
@@ -106,7 +106,6 @@ fn an_outer_abort_gives_up_committed_parts(rt: HostRuntime) -> Result<(), Fail> 
 #[test]
 fn an_abort_goes_back_over_a_committed_part(rt: HostRuntime) -> Result<(), Fail> {
     let alloc = rt.alloc();
-    let mut space = NestSpace::new(alloc);
     let lines = vec![in alloc;
         NestLine::Command(Command::Push(1)),
         NestLine::Begin,
@@ -119,6 +118,7 @@ fn an_abort_goes_back_over_a_committed_part(rt: HostRuntime) -> Result<(), Fail>
         NestLine::Commit,
         NestLine::Command(Command::Push(4)),
     ]?;
+    let mut space = NestSpace::new(alloc);
     assert!(rt; is_committed(&mut space, lines));
     assert_eq!(rt; space.list(), [1, 4].as_slice());
     Ok(())
@@ -127,7 +127,6 @@ fn an_abort_goes_back_over_a_committed_part(rt: HostRuntime) -> Result<(), Fail>
 #[test]
 fn values_come_back_after_a_truncate(rt: HostRuntime) -> Result<(), Fail> {
     let alloc = rt.alloc();
-    let mut space = NestSpace::new(alloc);
     let lines = vec![in alloc;
         NestLine::Command(Command::Push(1)),
         NestLine::Command(Command::Push(2)),
@@ -137,6 +136,7 @@ fn values_come_back_after_a_truncate(rt: HostRuntime) -> Result<(), Fail> {
         NestLine::Abort,
         NestLine::Command(Command::Push(4)),
     ]?;
+    let mut space = NestSpace::new(alloc);
     assert!(rt; is_committed(&mut space, lines));
     assert_eq!(rt; space.list(), [1, 2, 3, 4].as_slice());
     assert_eq!(rt; space.replies().len(), 4);
@@ -146,7 +146,6 @@ fn values_come_back_after_a_truncate(rt: HostRuntime) -> Result<(), Fail> {
 #[test]
 fn ids_come_in_order_after_two_aborts(rt: HostRuntime) -> Result<(), Fail> {
     let alloc = rt.alloc();
-    let mut space = NestSpace::new(alloc);
     let lines = vec![in alloc;
         NestLine::Command(Command::Alloc(10)),
         NestLine::Command(Command::Alloc(11)),
@@ -159,6 +158,7 @@ fn ids_come_in_order_after_two_aborts(rt: HostRuntime) -> Result<(), Fail> {
         NestLine::Abort,
         NestLine::Command(Command::Alloc(13)),
     ]?;
+    let mut space = NestSpace::new(alloc);
     assert!(rt; is_committed(&mut space, lines));
     assert_eq!(rt; space.replies().len(), 3);
     assert_eq!(rt; space.replies()[2], Record::Allocated { id: 2 });
@@ -170,17 +170,17 @@ fn ids_come_in_order_after_two_aborts(rt: HostRuntime) -> Result<(), Fail> {
 #[test]
 fn only_closed_lines_are_balanced(rt: HostRuntime) -> Result<(), Fail> {
     let alloc = rt.alloc();
-    let mut space = NestSpace::new(alloc);
     let closed_first = vec![in alloc; NestLine::Commit, NestLine::Begin]?;
-    assert!(rt; applied(&mut space, nest(closed_first, End::Commit)).is_none());
     let left_open = vec![in alloc; NestLine::Begin, NestLine::Begin, NestLine::Abort]?;
-    assert!(rt; applied(&mut space, nest(left_open, End::Commit)).is_none());
     let empty_inside = vec![in alloc;
         NestLine::Begin,
         NestLine::Abort,
         NestLine::Begin,
         NestLine::Commit,
     ]?;
+    let mut space = NestSpace::new(alloc);
+    assert!(rt; applied(&mut space, nest(closed_first, End::Commit)).is_none());
+    assert!(rt; applied(&mut space, nest(left_open, End::Commit)).is_none());
     assert!(rt; is_committed(&mut space, empty_inside));
     assert!(rt; is_empty(&space));
     Ok(())
@@ -202,8 +202,8 @@ fn deep(alloc: Global, depth: usize) -> Result<TryVec<NestLine<u64>>, OutOfMemor
 #[test]
 fn a_depth_of_a_hundred_thousand_takes_no_stack(rt: HostRuntime) -> Result<(), Fail> {
     let alloc = rt.alloc();
-    let mut space = NestSpace::new(alloc);
     let lines = deep(alloc, 100000)?;
+    let mut space = NestSpace::new(alloc);
     let end = End::Commit;
     assert!(rt;
         matches!(
