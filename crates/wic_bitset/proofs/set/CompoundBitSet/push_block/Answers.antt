@@ -22,7 +22,8 @@ loop-k-init g c =
     let now = c.args.self.now in
     let block : c.into_iter-k-iterator.result ≡ block_words w summary_width now.members c.args.s =
     c.into_iter-k-iterator.ensures.into_iter_gives ∙ c.read-k-items.ensures.members
-    ∙ block_words-are w summary_width _ _ _ c.self.invariant.0 c.args.s ∙ ap (λ v. block_words w summary_width v.members c.args.s) c.self.view_is in
+    ∙ block_words-are w summary_width _ _ _ c.self.invariant.0 c.args.s
+    ∙ ap (λ v. block_words w summary_width v.members c.args.s) c.self.view_is in
     let long = ap length block in (
       ap (λ ks. c.args.list.now.items ++ flat_map (word_members w now.members) ks) block,
       (
