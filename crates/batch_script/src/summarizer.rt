@@ -32,7 +32,19 @@ pub fn summary(alloc: Global, script: Script) -> Result<TryString, OutOfMemory>
         ≡ summary_text (plain_items script.items.items)) }
 {
     let mut workspace = Workspace::new(alloc);
-    let counts = count_items(script.items, &mut workspace)?;
+    summary_in(alloc, script.items, &mut workspace)
+}
+
+/// Runs items in an empty workspace that is lent, and returns the lines of their summary.
+fn summary_in(
+    alloc: Global,
+    items: TryVec<Item>,
+    workspace: &mut Workspace<u64>,
+) -> Result<TryString, OutOfMemory>
+    requires empty { state_of workspace.old ≡ empty_state }
+    ensures lines { IfOk result (λ text. text.bytes ≡ summary_text (plain_items items.items)) }
+{
+    let counts = count_items(items, workspace)?;
     let mut text = TryString::new(alloc);
     push_count(&mut text, "committed ", counts.committed)?;
     push_count(&mut text, "aborted ", counts.aborted)?;
