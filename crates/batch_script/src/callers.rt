@@ -1,5 +1,6 @@
 //! Callers of the program, proved from its contract alone.
 ghost use Rattle.std.specs.Prelude.{◌≡◌, ◌≢◌, ◌⊎◌, ◌≤◌, ◌∷◌, ℕ, List, [], codes, length, Some, IfOk};
+ghost use Rattle.batch_core.specs.State.{no_contents};
 ghost use Rattle.batch_script.specs.Device.{HasFaults, use_of};
 ghost use Rattle.batch_script.specs.Grammar.{IsScript, IsScriptOf};
 ghost use Rattle.batch_script.specs.Headline.{RunsWhole, WantsMemory};
@@ -73,16 +74,16 @@ pub fn serve_generated<S: Source, K: Sink>(
     top(alloc, words, source, sink)
 }
 
-/// Puts in a member, holds a value, and shows both: the text is known, letter by letter.
-pub fn show_two(alloc: Global) -> Result<TryString, Cause>
+/// Puts a member into an empty workspace, holds a value, and shows both: the text is known, letter by letter.
+pub fn show_two(alloc: Global, workspace: &mut Workspace<u64>) -> Result<TryString, Cause>
+    requires empty { workspace.old.contents ≡ no_contents }
     ensures shown { IfOk result
         (λ text. text.bytes ≡ codes "list\nset 3\ntable 0=5\nnext 1\n") }
 {
-    let mut workspace = Workspace::new(alloc);
     workspace.step(Command::Insert(3))?;
     workspace.step(Command::Alloc(5))?;
     let mut text = TryString::new(alloc);
-    match push_contents(&mut text, &workspace) {
+    match push_contents(&mut text, workspace) {
         Ok(()) => Ok(text),
         Err(oom) => Err(Cause::Oom(oom)),
     }

@@ -18,5 +18,5 @@ two_shown = rw shows refl
 pub returns-in-Ok : goal.returns-in-Ok
 returns-in-Ok c = record {
   shown = rw (c.in-Ok.ensures.lines, c.new-text.ensures.empty) (rw (c.in_ok-step-2.ensures.done.effect, c.in_ok-step.ensures.done.effect)
-      (rw c.new-workspace.ensures.contents two_shown));
+      (rw c.requires.empty two_shown));
 }
