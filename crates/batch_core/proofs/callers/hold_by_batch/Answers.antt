@@ -1,4 +1,4 @@
-use Rattle.std.proofs.Common.{◌≡◌, ◌<◌, Option, None, Some, sym, subst, arith}
+use Rattle.std.proofs.Common.{◌≡◌, ◌<◌, Option, None, Some, refl, sym, subst, arith}
 use Rattle.std.specs.Prelude.{IfNone}
 use Rattle.batch_core.specs.Course.{batch_course}
 use Rattle.batch_core.specs.Room.{Fits}
