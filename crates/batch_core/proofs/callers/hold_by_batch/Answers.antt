@@ -11,11 +11,12 @@ if_none (Some x) p = record {}
 
 pub returns : goal.returns
 returns g c =
-    let old = c.args.workspace.now.contents in
-    c.apply.ensures.never_oom_within (subst (λ items. Fits c.args.workspace.now.room (batch_course old items).stands)
-    (sym c.requires.one.1) (record {
-      few = omega arith;
-      within = if_none _ (λ admitted.
-          let adds = c.law_alloc_adds_one.ensures old c.requires.one.0 c.mark.ensures.sound admitted in
-          (λ passes. omega (arith, c.requires.room), _));
-    }))
+    let old = c.args.workspace.now.contents in record {
+      fits = c.apply.ensures.never_oom_within (subst (λ items. Fits c.args.workspace.now.room (batch_course old items).stands)
+          (sym c.requires.one.1) (record {
+            few = omega arith;
+            within = if_none _ (λ admitted.
+                let adds = c.law_alloc_adds_one.ensures old c.requires.one.0 c.mark.ensures.sound admitted in
+                (λ passes. omega (arith, c.requires.room), _));
+          }));
+    }
