@@ -1,5 +1,5 @@
 -- Lemmas that several crates share.
-pub mod Along
+pub mod AlongFacts
 pub mod MapFacts
 pub mod RangeFacts
 pub mod SetFacts

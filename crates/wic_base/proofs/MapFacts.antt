@@ -18,17 +18,17 @@ eq_by_cmp_same k = grind (arith, nat_tests)
 pub eq_by_cmp_other : (q k : ℕ) → q ≢ k → eq_by_cmp nat_cmp q k ≡ false
 eq_by_cmp_other q k differs = grind (arith, nat_tests)
 
--- b is true where T holds of it
+-- b is true if T holds of it
 pub equals_true_from_T : (b : Bool) → T b → b ≡ true
 equals_true_from_T true p = refl
 equals_true_from_T false p = absurd p
 
--- T holds of a && b where it holds of a and of b
+-- T holds of a && b if it holds of a and of b
 pub T-and_from_both : (a b : Bool) → T a → T b → T (a && b)
 T-and_from_both true b p q = q
 T-and_from_both false b p q = p
 
--- nat_cmp of a and b is less where a is below b
+-- nat_cmp of a and b is less if a is below b
 pub is_lt-nat_cmp_from_below : (a b : ℕ) → a < b → T (is_lt (nat_cmp a b))
 is_lt-nat_cmp_from_below a b below = grind (arith, nat_tests)
 

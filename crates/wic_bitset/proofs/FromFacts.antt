@@ -28,7 +28,7 @@ module _ (w : ℕ) (s : FinSet nat_cmp) (i n m : ℕ) (some : 0 < w) (word : IsW
       let low = mod_below q w some in
       sym (ap (contains s) e) ∙ sym (word (q % w) low) ∙ contains_below w n (q % w) low
 
-  -- and where it isn't below i, by the digit of the part
+  -- and if it isn't below i, by the digit of the part
   by_part : (q : ℕ) → i ≤ q → q / w ≡ i / w → contains s q ≡ is_one m (q % w)
   by_part q from at =
       let here = div-add-mod' q w in
@@ -95,7 +95,7 @@ least_from-first w s i x some least = record {
       (cases_lt q x);
 }
 
--- the least of word n, where there is none before
+-- the least of word n, if there is none before
 pub least_from-next : (w : ℕ) (s : FinSet nat_cmp) (i n x : ℕ) → 0 < w → i / w < n → NoneUntil w s i n → IsLeastInWord w s (n * w) x
     → IsLeastFrom s i x
 least_from-next w s i n x some behind before least =

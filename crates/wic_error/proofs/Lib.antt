@@ -1,3 +1,3 @@
 -- What the proofs of errors share.
-pub mod Links
-pub mod Texts
+pub mod LinkFacts
+pub mod TextFacts

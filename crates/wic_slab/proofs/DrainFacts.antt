@@ -6,7 +6,7 @@ use Rattle.std.specs.Iterator.Runs.{YieldsInOrder}
 use Rattle.std.specs.FinMap.{FinMap, get, remove, entries}
 use Rattle.wic_slab.specs.Drain.{drain_pairs, DrainSteps, DrainKeeps, DrainKeepsAlong}
 use Rattle.wic_slab.specs.declared.drain.Drain.{Drain}
-use Rattle.wic_base.proofs.Along.{keeps_along, in_order_by_firsts}
+use Rattle.wic_base.proofs.AlongFacts.{keeps_along, in_order_by_firsts}
 use Rattle.wic_base.proofs.MapFacts.{entries_none, get-remove_same, get-remove_other}
 
 module _ {X : Type 0} where
@@ -19,7 +19,7 @@ module _ {X : Type 0} where
   entries_left live place end done outside =
       entries_none live (λ q. elim (cases_lt q place) [ inl below ↦ outside q (inl below) | inr above ↦ outside q (inr (omega arith)) ])
 
-  -- where no id is live outside the places from place to below end, nor at place, none is outside those from place + 1 on
+  -- if no id is live outside the places from place to below end, nor at place, none is outside those from place + 1 on
   pub NoneOutside-past : (live : FinMap nat_cmp X) (place end : ℕ) → get live place ≡ None → NoneOutside live place end
       → NoneOutside live (place + 1) end
   NoneOutside-past live place end none outside id where_it_is =
@@ -28,7 +28,7 @@ module _ {X : Type 0} where
         | inr differs ↦ outside id (elim where_it_is [ inl below ↦ inl (omega arith) | inr above ↦ inr above ])
       ]
 
-  -- where no id is live outside the places from place to below end, none is outside those from place + 1 once place is taken out
+  -- if no id is live outside the places from place to below end, none is outside those from place + 1 once place is taken out
   pub NoneOutside-removed : (live : FinMap nat_cmp X) (place end : ℕ) → NoneOutside live place end
       → NoneOutside (remove live place) (place + 1) end
   NoneOutside-removed live place end outside =

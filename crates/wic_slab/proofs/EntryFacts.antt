@@ -102,19 +102,19 @@ module _ {X : Type 0} where
   occupied_from_value (Vacant next ∷ rest) zero value is = absurd (cc)
   occupied_from_value (e ∷ rest) (suc k) value is = occupied_from_value rest k value is
 
-  -- where a value is found under id k, the entry at place k is occupied by it
+  -- if a value is found under id k, the entry at place k is occupied by it
   pub occupied_at : (es : List (Entry X)) (k : ℕ) (value : X) → get (live_of es) k ≡ Some value → slice_get es k ≡ Some (Occupied value)
   occupied_at es k value found = occupied_from_value es k value (sym (get-live_of es k) ∙ found)
 
-  -- where the entry at place k is occupied by a value, it is found under id k
+  -- if the entry at place k is occupied by a value, it is found under id k
   pub get-occupied : (es : List (Entry X)) (k : ℕ) (value : X) → slice_get es k ≡ Some (Occupied value) → get (live_of es) k ≡ Some value
   get-occupied es k value found = get-live_of es k ∙ ap value_of (get_or_from_slice_get es k _ (Vacant 0) found)
 
-  -- where the entry at place k is vacant, nothing is found under id k
+  -- if the entry at place k is vacant, nothing is found under id k
   pub get-vacant : (es : List (Entry X)) (k next : ℕ) → slice_get es k ≡ Some (Vacant next) → get (live_of es) k ≡ None
   get-vacant es k next found = get-live_of es k ∙ ap value_of (get_or_from_slice_get es k _ (Vacant 0) found)
 
-  -- where there is no entry at place k, nothing is found under id k
+  -- if there is no entry at place k, nothing is found under id k
   pub get-past : (es : List (Entry X)) (k : ℕ) → slice_get es k ≡ None → get (live_of es) k ≡ None
   get-past es k none = get-live_of es k ∙ ap value_of (past es k none)
     where

@@ -149,7 +149,7 @@ is_order_taken (id ∷ ids) fresh valid room =
       at_most = valid.at_most;
     }
 
--- a valid order stays valid when its next id is taken, where that id is below the greatest number of live ids
+-- a valid order stays valid when its next id is taken, if that id is below the greatest number of live ids
 pub IsOrder-take_next : (o : Order) → IsOrder o → next_id o < max_capacity → IsOrder (take_next o)
 IsOrder-take_next o valid room = is_order_taken o.vacant o.fresh valid room
 
@@ -212,7 +212,7 @@ others_given [] fresh id q differs =
 others_given (next ∷ ids) fresh id q differs = rw (nat_eq_other q id differs)
 
 module _ {T : Type 0} where
-  -- where the next id of a valid order is taken and a value is written under it, the order still belongs to the live ids
+  -- if the next id of a valid order is taken and a value is written under it, the order still belongs to the live ids
   pub BelongsTo-take_next : (o : Order) (live : FinMap nat_cmp T) (value : T) → IsOrder o → BelongsTo o live
       → BelongsTo (take_next o) (insert live (next_id o) value)
   BelongsTo-take_next o live value valid belongs q =
@@ -222,7 +222,7 @@ module _ {T : Type 0} where
             ∙ sym (others_taken o.vacant o.fresh q differs)
       ]
 
-  -- where an id is given back and taken out of the map, the order still belongs to the live ids
+  -- if an id is given back and taken out of the map, the order still belongs to the live ids
   pub BelongsTo-give_back : (o : Order) (live : FinMap nat_cmp T) (id : ℕ) → BelongsTo o live
       → BelongsTo (give_back o id) (remove live id)
   BelongsTo-give_back o live id belongs q =
@@ -253,7 +253,7 @@ total-take_from : (vacant : List ℕ) (fresh count : ℕ) → count + length vac
 total-take_from [] fresh count total = omega arith
 total-take_from (id ∷ ids) fresh count total = omega arith
 
--- where count and the number of vacant ids add up to the first fresh id, so does count + 1 once the next id is taken
+-- if count and the number of vacant ids add up to the first fresh id, so does count + 1 once the next id is taken
 pub total-take_next : (o : Order) (count : ℕ) → count + length o.vacant ≡ o.fresh
     → count + 1 + length (take_next o).vacant ≡ (take_next o).fresh
 total-take_next o count total = total-take_from o.vacant o.fresh count total
@@ -267,7 +267,7 @@ total-give_to [] fresh count id some total =
     ]
 total-give_to (next ∷ ids) fresh count id some total = omega arith
 
--- where count and the number of vacant ids add up to the first fresh id, so does count - 1 once an id is given back
+-- if count and the number of vacant ids add up to the first fresh id, so does count - 1 once an id is given back
 pub total-give_back : (o : Order) (count id : ℕ) → 0 < count → count + length o.vacant ≡ o.fresh
     → count - 1 + length (give_back o id).vacant ≡ (give_back o id).fresh
 total-give_back o count id some total = total-give_to o.vacant o.fresh count id some total
@@ -282,7 +282,7 @@ fresh-give_to [] fresh count id total =
     ]
 fresh-give_to (next ∷ ids) fresh count id total = rw (nat_eq_other count fresh (λ same. omega arith))
 
--- the first fresh id falls only where no id below it is vacant, and then the live ones are as many as it
+-- the first fresh id falls only if no id below it is vacant, and then the live ones are as many as it
 pub fresh-give_back : (o : Order) (count id : ℕ) → count + length o.vacant ≡ o.fresh
     → (give_back o id).fresh ≡ cond (nat_eq count o.fresh && nat_eq (id + 1) o.fresh) id o.fresh
 fresh-give_back o count id total = fresh-give_to o.vacant o.fresh count id total

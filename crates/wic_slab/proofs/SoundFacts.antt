@@ -104,12 +104,12 @@ module _ {X : Type 0} where
       let read = ap (chain es next) many ∙ chain-linked es next o.vacant _ sound.linked in
       ap (λ vacant. record { vacant = vacant; fresh = o.fresh }) read
 
-  -- where entries are sound with the order o and fresh is its first fresh id, the order that is read from the fields is o
+  -- if entries are sound with the order o and fresh is its first fresh id, the order that is read from the fields is o
   pub same_order : (es : List (Entry X)) (count next fresh : ℕ) (o : Order) → IsSound es count next o → fresh ≡ o.fresh
       → order_of es next count fresh ≡ o
   same_order es count next fresh o sound same = rw same (order_of-sound es count next o sound)
 
-  -- where entries are sound with the order o and fresh is its first fresh id, they are sound with the order that is read
+  -- if entries are sound with the order o and fresh is its first fresh id, they are sound with the order that is read
   pub sound_again : (es : List (Entry X)) (count next fresh : ℕ) (o : Order) → IsSound es count next o → fresh ≡ o.fresh
       → IsSound es count next (order_of es next count fresh)
   sound_again es count next fresh o sound same = subst (IsSound es count next) (sym (same_order es count next fresh o sound same)) sound
@@ -141,7 +141,7 @@ module _ {X : Type 0} where
   full_at_end es count next o sound at_end =
       no_places o.vacant o.fresh (length es) sound.within (none_at_end es next _ sound.linked at_end)
 
-  -- where the vacant list of sound entries starts at their end, count is the number of entries
+  -- if the vacant list of sound entries starts at their end, count is the number of entries
   pub count_at_end : (es : List (Entry X)) (count next : ℕ) (o : Order) → IsSound es count next o → next ≡ length es → count ≡ length es
   count_at_end es count next o sound at_end =
       let full = full_at_end es count next o sound at_end in
@@ -198,7 +198,7 @@ module _ {X : Type 0} where
         at_most = omega (arith, sound.at_most);
       }
 
-  -- an entry is put at the end, where none is vacant
+  -- an entry is put at the end, if none is vacant
   pub IsSound-push : (es : List (Entry X)) (count next : ℕ) (o : Order) (value : X) → IsSound es count next o → next ≡ length es
       → length es < max_capacity → IsSound (es ++ Occupied value ∷ []) (count + 1) (next + 1) (take_next o)
   IsSound-push es count next o value sound at_end room =
@@ -283,11 +283,11 @@ module _ {X : Type 0} where
         at_most = omega arith;
       }
 
-  -- where there are no entries, the map of live ids is empty
+  -- if there are no entries, the map of live ids is empty
   pub live_of-empty : (es : List (Entry X)) → es ≡ [] → live_of es ≡ empty
   live_of-empty es none = ap live_of none ∙ same_map_from_get _ _ (λ q. get-live_of [] q ∙ sym (get-empty nat_cmp q))
 
-  -- where there are no entries, they are sound with 0 live ids, the vacant list at 0 and the order that starts at 0
+  -- if there are no entries, they are sound with 0 live ids, the vacant list at 0 and the order that starts at 0
   pub IsSound-empty : (es : List (Entry X)) → es ≡ [] → IsSound es 0 0 from_zero
   IsSound-empty es none = rw none
       (record {

@@ -1,5 +1,5 @@
 -- What the proofs of vectors and texts share.
-pub mod ClosureRuns
+pub mod ClosureFacts
 pub mod DigitFacts
-pub mod DigitTable
+pub mod TableFacts
 pub mod ListFacts

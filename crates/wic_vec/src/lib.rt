@@ -12,11 +12,11 @@
 //! ```
 //!
 //! `push_reserved`, `from_clones`, `extend_from_slice`, `push_decimal`, `push_decimal_line` and `push_number` have no
-//! counterpart in Rust. For a caller of `retain`, `retain_mut` or `resize_with` the lemmas in `proofs/ClosureRuns` say
+//! counterpart in Rust. For a caller of `retain`, `retain_mut` or `resize_with` the lemmas in `proofs/ClosureFacts` say
 //! what becomes of the elements.
 //!
 //! **Out of memory.** Below the capacity no growth is refused, so reserve first what must not fail later. A copy of an
-//! element may still want memory of its own, in `resize` and `from_clones`. After a refusal the value is as before,
+//! element may still be refused memory of its own, in `resize` and `from_clones`. After a refusal the value is as before,
 //! except for `resize`, which leaves the copies that it made. A value that was to be pushed is dropped.
 //!
 //! **Limits.** No contract says when the allocator has memory, nor in which order elements are dropped, nor how much more

@@ -86,7 +86,7 @@ impl<T: Drop> TryVec<T> {
     /// returns, called once for each new element, in order. It is refused only if the capacity is below the new
     /// length, before the first call: then the vector is as before.
     ///
-    /// `filled_from_answers` of `proofs/ClosureRuns` is for a caller whose `f` always returns one value.
+    /// `filled_from_answers` of `proofs/ClosureFacts` is for a caller whose `f` always returns one value.
     pub fn resize_with<F: FnMut() -> T>(&mut self, new_len: usize, f: F) -> Result<(), OutOfMemory>
         requires { F.IsAlwaysCallable f }
         ensures items { OnOk result (AppendsAnswers F.step f (new_len - length self.old.items)

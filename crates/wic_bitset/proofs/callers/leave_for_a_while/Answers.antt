@@ -5,7 +5,7 @@ use Rattle.wic_base.proofs.SetFacts.{insert-remove}
 use Rattle.wic_bitset.specs.Compound.{Compound}
 use Rattle.wic_bitset.proofs.callers.leave_for_a_while.Goals as goal
 
--- two sets in words are the same where their parts are
+-- two sets in words are the same if their parts are
 same_compound : (s t : Compound) → s.members ≡ t.members → s.words ≡ t.words → s ≡ t
 same_compound s t members words = λ j. record { members = members j; words = words j }
 

@@ -1,6 +1,6 @@
 use Rattle.std.proofs.Common.{◌≡◌, ◌-◌, length, refl, arith}
 use Rattle.std.specs.Fmt.{decimal}
-use Rattle.wic_error.proofs.Texts.{one_digit, two_digits, three_digits, four_digits, many_digits}
+use Rattle.wic_error.proofs.TextFacts.{one_digit, two_digits, three_digits, four_digits, many_digits}
 use Rattle.wic_error.proofs.report.blanks_before.Goals as goal
 
 pub returns-in-0-to-9 : goal.returns-in-0-to-9

@@ -1,6 +1,6 @@
 use Rattle.std.proofs.Common.{◌==◌, ◌∷◌, append_assoc}
 use Rattle.std.proofs.lemmas.Bool.{ne_eqb}
-use Rattle.wic_error.proofs.Links.{none_in_more}
+use Rattle.wic_error.proofs.LinkFacts.{none_in_more}
 use Rattle.wic_error.proofs.repr.newest_with.Goals as goal
 
 pub loop-link-preserved : goal.loop-link-preserved

@@ -1,6 +1,6 @@
 use Rattle.std.proofs.Common.{rules}
 use Rattle.std.proofs.lemmas.Result.{on_ok_weaker}
-use Rattle.wic_vec.proofs.ClosureRuns.{filled_from_answers}
+use Rattle.wic_vec.proofs.ClosureFacts.{filled_from_answers}
 use Rattle.wic_vec.proofs.callers.fill_up.Goals as goal
 
 pub returns : goal.returns

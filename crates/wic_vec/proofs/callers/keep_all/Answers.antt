@@ -1,5 +1,5 @@
 use Rattle.std.proofs.Common.{rules}
-use Rattle.wic_vec.proofs.ClosureRuns.{all_from_retains}
+use Rattle.wic_vec.proofs.ClosureFacts.{all_from_retains}
 use Rattle.wic_vec.proofs.callers.keep_all.Goals as goal
 
 pub returns : goal.returns

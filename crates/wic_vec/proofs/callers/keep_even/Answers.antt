@@ -1,5 +1,5 @@
 use Rattle.std.proofs.Common.{rules}
-use Rattle.wic_vec.proofs.ClosureRuns.{filter_from_retains}
+use Rattle.wic_vec.proofs.ClosureFacts.{filter_from_retains}
 use Rattle.wic_vec.proofs.callers.keep_even.Goals as goal
 
 pub returns : goal.returns

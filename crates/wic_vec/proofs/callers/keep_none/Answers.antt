@@ -1,5 +1,5 @@
 use Rattle.std.proofs.Common.{rules}
-use Rattle.wic_vec.proofs.ClosureRuns.{none_from_retains}
+use Rattle.wic_vec.proofs.ClosureFacts.{none_from_retains}
 use Rattle.wic_vec.proofs.callers.keep_none.Goals as goal
 
 pub returns : goal.returns

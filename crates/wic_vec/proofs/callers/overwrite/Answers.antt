@@ -1,5 +1,5 @@
 use Rattle.std.proofs.Common.{rules}
-use Rattle.wic_vec.proofs.ClosureRuns.{written_from_retains}
+use Rattle.wic_vec.proofs.ClosureFacts.{written_from_retains}
 use Rattle.wic_vec.proofs.callers.overwrite.Goals as goal
 
 pub returns : goal.returns

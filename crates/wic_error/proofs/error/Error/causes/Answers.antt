@@ -1,5 +1,5 @@
 use Rattle.std.proofs.Common.{sym, ◌∙◌}
-use Rattle.wic_error.proofs.Texts.{texts_of-parts, texts_of-no_link}
+use Rattle.wic_error.proofs.TextFacts.{texts_of-parts, texts_of-no_link}
 use Rattle.wic_error.proofs.error.Error.causes.Goals as goal
 
 pub returns-in-Some : goal.returns-in-Some

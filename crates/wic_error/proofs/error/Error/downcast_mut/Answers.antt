@@ -1,4 +1,4 @@
-use Rattle.wic_error.proofs.Links.{first_found, seen-with_kept}
+use Rattle.wic_error.proofs.LinkFacts.{first_found, seen-with_kept}
 use Rattle.wic_error.proofs.error.Error.downcast_mut.Goals as goal
 
 pub returns : goal.returns

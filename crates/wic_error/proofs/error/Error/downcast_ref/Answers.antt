@@ -1,5 +1,5 @@
 use Rattle.std.proofs.Common.{sym, ◌∙◌}
-use Rattle.wic_error.proofs.Links.{first_found}
+use Rattle.wic_error.proofs.LinkFacts.{first_found}
 use Rattle.wic_error.proofs.error.Error.downcast_ref.Goals as goal
 
 pub returns : goal.returns

@@ -1,5 +1,5 @@
 use Rattle.std.proofs.Common.{◌∙◌}
-use Rattle.wic_error.proofs.Links.{is_first}
+use Rattle.wic_error.proofs.LinkFacts.{is_first}
 use Rattle.wic_error.proofs.error.Error.is.Goals as goal
 
 pub returns : goal.returns

@@ -1,7 +1,7 @@
 use Rattle.std.proofs.Common.{◌<◌, length, map, reverse, arith, append_assoc, sym, ◌∙◌}
 use Rattle.std.proofs.lemmas.Bool.{eqb-false}
 use Rattle.std.proofs.lemmas.List.{length-map, length-reverse}
-use Rattle.wic_error.proofs.Texts.{report-causes}
+use Rattle.wic_error.proofs.TextFacts.{report-causes}
 use Rattle.wic_error.proofs.error.Error.report.Goals as goal
 
 pub returns : goal.returns

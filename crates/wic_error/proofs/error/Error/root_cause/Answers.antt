@@ -1,4 +1,4 @@
-use Rattle.wic_error.proofs.Links.{ends_in_root}
+use Rattle.wic_error.proofs.LinkFacts.{ends_in_root}
 use Rattle.wic_error.proofs.error.Error.root_cause.Goals as goal
 
 pub returns-in-Links : goal.returns-in-Links

@@ -1,6 +1,6 @@
 use Rattle.std.proofs.Common.{◌+◌, ◌%◌, ◌/◌}
 use Rattle.wic_vec.proofs.DigitFacts.{two_written}
-use Rattle.wic_vec.proofs.DigitTable.{pair_at}
+use Rattle.wic_vec.proofs.TableFacts.{pair_at}
 use Rattle.wic_vec.proofs.string.digits.write_pair.Goals as goal
 
 pub returns : goal.returns

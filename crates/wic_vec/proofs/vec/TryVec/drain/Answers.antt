@@ -1,5 +1,5 @@
 use Rattle.std.proofs.Common.{refl, ◌∙◌}
-use Rattle.wic_base.proofs.Along.{in_order_by_firsts, keeps_along}
+use Rattle.wic_base.proofs.AlongFacts.{in_order_by_firsts, keeps_along}
 use Rattle.wic_vec.specs.Drain.{drain_items, DrainSteps, DrainKeeps}
 use Rattle.wic_vec.proofs.vec.TryVec.drain.Goals as goal
 

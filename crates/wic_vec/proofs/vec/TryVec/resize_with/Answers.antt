@@ -1,5 +1,5 @@
 use Rattle.std.proofs.Common.{◌≡◌, length, rules, ap, ◌∙◌}
-use Rattle.wic_vec.proofs.ClosureRuns.{appends_answers, given_ok}
+use Rattle.wic_vec.proofs.ClosureFacts.{appends_answers, given_ok}
 use Rattle.wic_vec.proofs.vec.TryVec.resize_with.Goals as goal
 
 pub returns-clause-items : goal.returns-clause-items

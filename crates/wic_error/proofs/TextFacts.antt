@@ -10,7 +10,7 @@ use Rattle.wic_error.specs.Error.{item_text, link, texts_of}
 use Rattle.wic_error.specs.Kept.{kept_of, seen, IsLinked}
 use Rattle.wic_error.specs.declared.repr.Repr.{Repr}
 use Rattle.wic_error.specs.declared.repr.Repr.TheVariants.{Oom, Links}
-use Rattle.wic_error.proofs.Links.{reverse_parts}
+use Rattle.wic_error.proofs.LinkFacts.{reverse_parts}
 
 module _ {K : Type 0} (text : K → List ℕ) where
   item_texts : (ks : List K) → map (item_text text) (map link ks) ≡ map text ks
