@@ -26,7 +26,7 @@ later_more n m (Some bad) next =
     let at : 1 + (n + bad.at) ≡ m + bad.at = omega arith in
     ap (λ k. Some (record bad { at = k })) at
 
--- what holds if there is no cause holds where there is none
+-- what holds if there is no cause holds if there is none
 pub if_none : (o : Option Cause) (P : Type 0) → o ≡ None → IfNone o P → P
 if_none o P none here = subst (λ x. IfNone x P) none here
 
@@ -80,7 +80,7 @@ module _ {X : Type 0} where
       first_bad-append front (stand ∷ []) good
       ∙ ap (λ o. option_map (later_by (length front)) (front_or_later o None)) admitted
 
-  -- if no command of the front is bad, a course stays within the room where the front does, and then the others, counted from
+  -- if no command of the front is bad, a course stays within the room if the front does, and then the others, counted from
   -- what the front cuts off
   pub within-append : (room count : ℕ) (front stands : List (Stand X)) → first_bad front ≡ None
       → StaysWithin room count (front ++ stands) → StaysWithin room count front × StaysWithin room (count + cut_off front) stands

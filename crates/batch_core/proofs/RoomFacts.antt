@@ -35,7 +35,7 @@ module _ {X : Type 0} where
 
   -- what fits a room fits each larger room
   pub fits_larger : FitsLargerRooms X
-  fits_larger room larger stands more fits = record {
+  fits_larger room larger places stands more fits = record {
     few = omega (arith, fits.few, more);
     within = within_larger room larger (length stands) stands more fits.within;
   }

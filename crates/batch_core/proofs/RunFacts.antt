@@ -211,10 +211,10 @@ module _ {X : Type 0} where
       (omega (arith, along.count)) in
       ap (λ o. unless_bad o first.contents (ended first.contents whole ending)) bad
 
-  short_here : (whole : Course X) (first now : Workspace X) (command : Command X) (later : Course X) (at : ℕ)
+  short_here : (places : ℕ) (whole : Course X) (first now : Workspace X) (command : Command X) (later : Course X) (at : ℕ)
       → IsAlong whole first now (led_by now.contents command later) at → IsReady now → IsWithin now.capacities now.contents
-      → cause_of now.contents command ≡ None → (¬ HasRoom now command) → IsShort first.room whole.stands (suc at)
-  short_here whole first now command later at along ready within none no_room =
+      → cause_of now.contents command ≡ None → (¬ HasRoom now command) → IsShort first.room places whole.stands (suc at)
+  short_here places whole first now command later at along ready within none no_room =
       let stand : Stand X = record { contents = now.contents; command = command } in
       let stands = ap (λ course. course.stands) along.course in
       let long : length whole.stands ≡ length along.front + length (stand ∷ later.stands) =
@@ -232,74 +232,76 @@ module _ {X : Type 0} where
             no_room (has_room now command count ready within none stays few (along.counted parts.0)),
       )
 
-  -- the command that isn't done refuses the batch
-  pub along_refused : (whole : Course X) (first now : Workspace X) (command : Command X) (later : Course X) (ending : End) (at : ℕ)
-      (cause : Cause) → IsAlong whole first now (led_by now.contents command later) at → IsReady now
+  -- the command that isn't done refuses the batch, whatever places it needed to begin
+  pub along_refused : (places : ℕ) (whole : Course X) (first now : Workspace X) (command : Command X) (later : Course X) (ending : End)
+      (at : ℕ) (cause : Cause) → IsAlong whole first now (led_by now.contents command later) at → IsReady now
       → IsWithin now.capacities now.contents → IsCauseOf now command cause
-      → RefusedFor first.room first.contents whole ending cause (at + 1)
-  along_refused whole first now command later ending at Empty along ready within is =
+      → RefusedFor first.room places first.contents whole ending cause (at + 1)
+  along_refused places whole first now command later ending at Empty along ready within is =
       bad_here whole first now command later ending at Empty along is
-  along_refused whole first now command later ending at Position along ready within is =
+  along_refused places whole first now command later ending at Position along ready within is =
       bad_here whole first now command later ending at Position along is
-  along_refused whole first now command later ending at Vacant along ready within is =
+  along_refused places whole first now command later ending at Vacant along ready within is =
       bad_here whole first now command later ending at Vacant along is
-  along_refused whole first now command later ending at Full along ready within is =
+  along_refused places whole first now command later ending at Full along ready within is =
       bad_here whole first now command later ending at Full along is
-  along_refused whole first now command later ending at TooLarge along ready within is =
+  along_refused places whole first now command later ending at TooLarge along ready within is =
       bad_here whole first now command later ending at TooLarge along is
-  along_refused whole first now command later ending at (Oom size) along ready within is =
+  along_refused places whole first now command later ending at (Oom size) along ready within is =
       let next : suc at ≡ at + 1 = omega arith in
-      subst (IsShort first.room whole.stands) next (short_here whole first now command later at along ready within is.0 is.1)
+      subst (IsShort first.room places whole.stands) next (short_here places whole first now command later at along ready within is.0 is.1)
 
-  short_beyond : (room : ℕ) (stands : List (Stand X)) (at : ℕ) → IsShort room stands at → ¬ Fits room stands
-  short_beyond room stands zero short = λ fits. omega (arith, short, fits.few)
-  short_beyond room stands (suc before) short =
+  -- what fits the room is never short of it
+  pub short_beyond : (room places : ℕ) (stands : List (Stand X)) (at : ℕ) → IsShort room places stands at → ¬ Fits room places stands
+  short_beyond room places stands zero short = λ fits. omega (arith, short, fits.few)
+  short_beyond room places stands (suc before) short =
       λ fits. short.2 (within-take room (length stands) stands (suc before) fits.within)
 
   -- a course from contents that fits the room fits it if room and contents are the same
-  pub fits_kept : {room other : ℕ} {c d : Contents X} (course : Contents X → Course X) → room ≡ other → c ≡ d
-      → Fits other (course d).stands → Fits room (course c).stands
-  fits_kept {room} {other} {c} {d} course same_room same fits =
-      subst (λ r. Fits r (course c).stands) (sym same_room) (subst (λ k. Fits other (course k).stands) (sym same) fits)
+  pub fits_kept : {room other : ℕ} {c d : Contents X} (places : ℕ) (course : Contents X → Course X) → room ≡ other → c ≡ d
+      → Fits other places (course d).stands → Fits room places (course c).stands
+  fits_kept {room} {other} {c} {d} places course same_room same fits =
+      subst (λ r. Fits r places (course c).stands) (sym same_room) (subst (λ k. Fits other places (course k).stands) (sym same) fits)
 
   -- a course from contents that is refused is refused so for the same room and contents
-  pub refused_kept : (room other : ℕ) (c d : Contents X) (course : Contents X → Course X) (ending : End) (cause : Cause) (at : ℕ)
-      → room ≡ other → c ≡ d → RefusedFor room c (course c) ending cause at → RefusedFor other d (course d) ending cause at
-  refused_kept room other c d course ending cause at same_room same was =
-      subst (λ r. RefusedFor r d (course d) ending cause at) same_room
-      (subst (λ k. RefusedFor room k (course k) ending cause at) same was)
+  pub refused_kept : {room other : ℕ} {c d : Contents X} (places : ℕ) (course : Contents X → Course X) (ending : End) (cause : Cause)
+      (at : ℕ) → room ≡ other → c ≡ d → RefusedFor room places c (course c) ending cause at
+      → RefusedFor other places d (course d) ending cause at
+  refused_kept {room} {other} {c} {d} places course ending cause at same_room same was =
+      subst (λ r. RefusedFor r places d (course d) ending cause at) same_room
+      (subst (λ k. RefusedFor room places k (course k) ending cause at) same was)
 
   -- a refusal is for memory, or the outcome is the refusal of this command
-  refused_cases : (room : ℕ) (c : Contents X) (course : Course X) (ending : End) (cause : Cause) (at : ℕ)
-      → RefusedFor room c course ending cause at
-      → (IsOom cause × IsShort room course.stands at)
+  refused_cases : (room places : ℕ) (c : Contents X) (course : Course X) (ending : End) (cause : Cause) (at : ℕ)
+      → RefusedFor room places c course ending cause at
+      → (IsOom cause × IsShort room places course.stands at)
       ⊎ ((¬ IsOom cause) × (outcome_of c course ending ≡ (refused (record { cause = cause; at = at }), c)))
-  refused_cases room c course ending Empty at is = inr ((λ oom. oom), is)
-  refused_cases room c course ending Position at is = inr ((λ oom. oom), is)
-  refused_cases room c course ending Vacant at is = inr ((λ oom. oom), is)
-  refused_cases room c course ending Full at is = inr ((λ oom. oom), is)
-  refused_cases room c course ending TooLarge at is = inr ((λ oom. oom), is)
-  refused_cases room c course ending (Oom size) at is = inl (tt, is)
+  refused_cases room places c course ending Empty at is = inr ((λ oom. oom), is)
+  refused_cases room places c course ending Position at is = inr ((λ oom. oom), is)
+  refused_cases room places c course ending Vacant at is = inr ((λ oom. oom), is)
+  refused_cases room places c course ending Full at is = inr ((λ oom. oom), is)
+  refused_cases room places c course ending TooLarge at is = inr ((λ oom. oom), is)
+  refused_cases room places c course ending (Oom size) at is = inl (tt, is)
 
   -- a batch that fits the room isn't refused for memory
-  pub never_refused : (room : ℕ) (c : Contents X) (course : Course X) (ending : End) (cause : Cause) (at : ℕ)
-      → RefusedFor room c course ending cause at → Fits room course.stands → ¬ IsOom cause
-  never_refused room c course ending cause at is fits = ⊎_elim
-      (λ short. absurd (short_beyond room course.stands at short.1 fits))
+  pub never_refused : (room places : ℕ) (c : Contents X) (course : Course X) (ending : End) (cause : Cause) (at : ℕ)
+      → RefusedFor room places c course ending cause at → Fits room places course.stands → ¬ IsOom cause
+  never_refused room places c course ending cause at is fits = ⊎_elim
+      (λ short. absurd (short_beyond room places course.stands at short.1 fits))
       (λ bad. bad.0)
-      (refused_cases room c course ending cause at is)
+      (refused_cases room places c course ending cause at is)
 
   -- a batch that isn't refused for memory leaves what its outcome says
-  pub applied_contents : (old new : Workspace X) (course : Course X) (ending : End) (result : Result Done Refusal)
-      → IsApplied old course ending result new → IfErr result (λ refusal. ¬ IsOom refusal.cause)
+  pub applied_contents : (old new : Workspace X) (places : ℕ) (course : Course X) (ending : End) (result : Result Done Refusal)
+      → IsApplied old places course ending result new → IfErr result (λ refusal. ¬ IsOom refusal.cause)
       → new.contents ≡ (outcome_of old.contents course ending).1
-  applied_contents old new course ending (Ok Committed) applied found = sym (ap (λ p. p.1) applied)
-  applied_contents old new course ending (Ok Aborted) applied found = sym (ap (λ p. p.1) applied.0)
-  applied_contents old new course ending (Err refusal) applied found =
+  applied_contents old new places course ending (Ok Committed) applied found = sym (ap (λ p. p.1) applied)
+  applied_contents old new places course ending (Ok Aborted) applied found = sym (ap (λ p. p.1) applied.0)
+  applied_contents old new places course ending (Err refusal) applied found =
       applied.0 ∙ ⊎_elim
       (λ short. absurd (found short.0))
       (λ bad. sym (ap (λ p. p.1) bad.1))
-      (refused_cases old.room old.contents course ending refusal.cause refusal.at applied.2)
+      (refused_cases old.room places old.contents course ending refusal.cause refusal.at applied.2)
 
   not_refused : (c : Contents X) (course : Course X) (ending : End) (bad : BadCommand) → ended c course ending ≡ (refused bad, c) → ⊥
   not_refused c course Commit bad same = let differ : committed course.records ≡ refused bad = ap (λ p. p.0) same in cc
@@ -312,12 +314,12 @@ module _ {X : Type 0} where
       not_refused c course ending bad (sym (ap (λ o. unless_bad o c (ended c course ending)) none) ∙ is)
 
   -- a batch that fits the room and has no bad command isn't refused
-  pub never_refused_at_all : (room : ℕ) (c : Contents X) (course : Course X) (ending : End) (cause : Cause) (at : ℕ)
-      → RefusedFor room c course ending cause at → Fits room course.stands → first_bad course.stands ≡ None → ⊥
-  never_refused_at_all room c course ending cause at is fits none = ⊎_elim
-      (λ short. short_beyond room course.stands at short.1 fits)
+  pub never_refused_at_all : (room places : ℕ) (c : Contents X) (course : Course X) (ending : End) (cause : Cause) (at : ℕ)
+      → RefusedFor room places c course ending cause at → Fits room places course.stands → first_bad course.stands ≡ None → ⊥
+  never_refused_at_all room places c course ending cause at is fits none = ⊎_elim
+      (λ short. short_beyond room places course.stands at short.1 fits)
       (λ bad. bad_refused c course ending _ bad.1 none)
-      (refused_cases room c course ending cause at is)
+      (refused_cases room places c course ending cause at is)
 
   -- an admitted command that keeps within the room has room
   pub step_has_room : (s : Workspace X) (command : Command X) → IsReady s → IsWithin s.capacities s.contents

@@ -1,7 +1,8 @@
 -- The course of a batch: its commands in the order of the lines, each where it stands.
-use Rattle.std.specs.Prelude.{List, [], ◌∷◌, ◌++◌}
+use Rattle.std.specs.Prelude.{ℕ, List, [], ◌∷◌, ◌++◌, length}
 use Rattle.batch_core.specs.State.{Contents}
 use Rattle.batch_core.specs.Command.{effect_of, records_of}
+use Rattle.batch_core.specs.declared.command.Batch.{Batch}
 use Rattle.batch_core.specs.declared.command.Command.{Command}
 use Rattle.batch_core.specs.declared.record.Record.{Record}
 
@@ -29,3 +30,11 @@ module _ {T : Type 0} where
   abbrev pub batch_course : Contents T → List (Command T) → Course T
   batch_course contents [] = record { stands = []; records = []; after = contents }
   batch_course contents (command ∷ commands) = led_by contents command (batch_course (effect_of contents command) commands)
+
+  -- the course of this batch from these contents
+  abbrev pub course_of : Contents T → Batch T → Course T
+  course_of contents batch = batch_course contents batch.commands.items
+
+  -- so many places for records it needs to begin: one for each command
+  abbrev pub places_of : Batch T → ℕ
+  places_of batch = length batch.commands.items

@@ -29,7 +29,8 @@ module _ {T : Type 0} where
       ((¬ Passes room count stand.contents stand.command)
       × StaysWithin room (count + cut_by stand.contents stand.command) stands)
 
-  -- the course of these commands fits the room: they are no more than the room, and stay within it
-  pub record Fits (room : ℕ) (stands : List (Stand T)) : Type 0 where
-    pub few : length stands ≤ room
+  -- the course of these commands, which needs so many places to begin, fits the room: these are no more than the room, and the
+  -- commands stay within it
+  pub record Fits (room places : ℕ) (stands : List (Stand T)) : Type 0 where
+    pub few : places ≤ room
     pub within : StaysWithin room (length stands) stands

@@ -3,8 +3,8 @@ ghost use Rattle.std.specs.Prelude.{◌≡◌, ◌<◌, ◌≤◌, ◌↔◌, []
 ghost use Rattle.std.specs.Prelude.{IsTrue, IsOk, IfErr, OnOk, OnErr};
 ghost use Rattle.wic_slab.specs.Order.{max_capacity};
 ghost use Rattle.wic_bitset.specs.Compound.{capacity_of};
-ghost use Rattle.batch_core.specs.Applied.{course_of, RefusedAtAnyEnd, IsApplied};
-ghost use Rattle.batch_core.specs.Course.{batch_course};
+ghost use Rattle.batch_core.specs.Applied.{RefusedAtAnyEnd, IsApplied};
+ghost use Rattle.batch_core.specs.Course.{batch_course, course_of, places_of};
 ghost use Rattle.batch_core.specs.Batch.{first_bad};
 ghost use Rattle.batch_core.specs.Back.{Grows, IsWithin, back};
 ghost use Rattle.batch_core.specs.Command.{cause_of};
@@ -211,14 +211,14 @@ impl<T: Drop> Workspace<T> {
             (self.new.contents ≡ (batch_course self.old.contents commands.items).after) }
         ensures records { OnOk result
             (self.new.records ≡ (batch_course self.old.contents commands.items).records) }
-        ensures refused { IfErr result (λ r. RefusedAtAnyEnd self.old.room self.old.contents
-            (batch_course self.old.contents commands.items) r.cause r.at) }
+        ensures refused { IfErr result (λ r. RefusedAtAnyEnd self.old.room (length commands.items)
+            self.old.contents (batch_course self.old.contents commands.items) r.cause r.at) }
         ensures at_from_one { IfErr result (λ r. 1 ≤ r.at) }
         ensures at_within { IfErr result (λ r. r.at ≤ length commands.items) }
-        ensures never_oom_within { Fits self.old.room
+        ensures never_oom_within { Fits self.old.room (length commands.items)
             (batch_course self.old.contents commands.items).stands
             → IfErr result (λ r. ¬ IsOom r.cause) }
-        ensures never_refused_within { Fits self.old.room
+        ensures never_refused_within { Fits self.old.room (length commands.items)
             (batch_course self.old.contents commands.items).stands
             → first_bad (batch_course self.old.contents commands.items).stands ≡ None
             → IsOk result }
@@ -247,13 +247,16 @@ impl<T: Drop> Workspace<T> {
     /// if that one or one before it passes the room and none of them is bad. What was done until then is undone without an
     /// allocation. Capacities that have grown stay.
     pub fn apply(&mut self, batch: Batch<T>) -> Result<Done, Refusal>
-        ensures applied { IsApplied self.old (course_of self.old batch) batch.end result self.new }
+        ensures applied { IsApplied self.old (places_of batch)
+            (course_of self.old.contents batch) batch.end result self.new }
         ensures at_from_one { IfErr result (λ r. ¬ IsOom r.cause → 1 ≤ r.at) }
         ensures at_within { IfErr result (λ r. r.at ≤ length batch.commands.items) }
-        ensures never_oom_within { Fits self.old.room (course_of self.old batch).stands
+        ensures never_oom_within { Fits self.old.room (places_of batch)
+            (course_of self.old.contents batch).stands
             → IfErr result (λ r. ¬ IsOom r.cause) }
-        ensures never_refused_within { Fits self.old.room (course_of self.old batch).stands
-            → first_bad (course_of self.old batch).stands ≡ None → IsOk result }
+        ensures never_refused_within { Fits self.old.room (places_of batch)
+            (course_of self.old.contents batch).stands
+            → first_bad (course_of self.old.contents batch).stands ≡ None → IsOk result }
         ensures back { back self.new.contents self.new.records 0 ≡ self.old.contents }
         ensures room { self.new.room ≡ self.old.room }
         ensures grows { Grows self.old.capacities self.new.capacities }

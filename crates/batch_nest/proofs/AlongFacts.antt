@@ -1,5 +1,5 @@
 -- How far a nest has come by its commands alone: as far as a batch of the same commands.
-use Rattle.std.proofs.Common.{◌≡◌, ℕ, suc, ◌+◌, ◌≤◌, ◌++◌, length, Option, None, Some, refl, sym, ap, subst, ◌∙◌, arith}
+use Rattle.std.proofs.Common.{◌≡◌, ℕ, ◌+◌, ◌≤◌, ◌++◌, length, Option, None, Some, refl, sym, ap, subst, ◌∙◌, arith}
 use Rattle.batch_core.specs.State.{Contents, IsSound}
 use Rattle.batch_core.specs.Command.{cause_of, effect_of}
 use Rattle.batch_core.specs.Back.{Grows, undo_all}
@@ -14,8 +14,6 @@ use Rattle.batch_core.specs.declared.command.Command.{Command}
 use Rattle.batch_core.specs.declared.command.End.{End}
 use Rattle.batch_core.proofs.CourseFacts.{after_front, cut_off}
 use Rattle.batch_core.proofs.RunFacts.{IsAlong, along_step, bad_refused}
-use Rattle.batch_nest.specs.Nest.{Body, nest_course}
-use Rattle.batch_nest.specs.Applied.{IsNestShort, NestRefusedFor}
 
 module _ {X : Type 0} where
   -- a batch of the same commands as this course has come as far
@@ -74,16 +72,12 @@ module _ {X : Type 0} where
   same_bad c course other ending bad same is =
       by_bad (first_bad other.stands) c course other ending bad (ap first_bad (sym same)) refl is
 
-  -- a command that refuses the batch of the same commands refuses the nest
-  pub nest_refused : (room : ℕ) (c : Contents X) (course : Course X) (body : Body X) (ending : End) (cause : Cause) (at : ℕ)
-      → course.stands ≡ (nest_course c body).stands → RefusedFor room c course ending cause (at + 1)
-      → NestRefusedFor room c body ending cause (at + 1)
-  nest_refused room c course body ending Empty at same is = same_bad c course (nest_course c body) ending _ same is
-  nest_refused room c course body ending Position at same is = same_bad c course (nest_course c body) ending _ same is
-  nest_refused room c course body ending Vacant at same is = same_bad c course (nest_course c body) ending _ same is
-  nest_refused room c course body ending Full at same is = same_bad c course (nest_course c body) ending _ same is
-  nest_refused room c course body ending TooLarge at same is = same_bad c course (nest_course c body) ending _ same is
-  nest_refused room c course body ending (Oom size) at same is =
-      let next : suc at ≡ at + 1 = omega arith in
-      subst (IsNestShort room c body) next
-      (subst (λ l. IsShort room l (suc at)) same (subst (IsShort room course.stands) (sym next) is))
+  -- what refuses a course refuses each course of the same commands
+  pub same_refused : (room places : ℕ) (c : Contents X) (course other : Course X) (ending : End) (cause : Cause) (at : ℕ)
+      → course.stands ≡ other.stands → RefusedFor room places c course ending cause at → RefusedFor room places c other ending cause at
+  same_refused room places c course other ending Empty at same is = same_bad c course other ending _ same is
+  same_refused room places c course other ending Position at same is = same_bad c course other ending _ same is
+  same_refused room places c course other ending Vacant at same is = same_bad c course other ending _ same is
+  same_refused room places c course other ending Full at same is = same_bad c course other ending _ same is
+  same_refused room places c course other ending TooLarge at same is = same_bad c course other ending _ same is
+  same_refused room places c course other ending (Oom size) at same is = subst (λ l. IsShort room places l at) same is

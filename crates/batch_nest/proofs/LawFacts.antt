@@ -9,7 +9,7 @@ use Rattle.batch_nest.specs.declared.nest.NestLine.{NestLine}
 use Rattle.batch_nest.specs.declared.nest.NestLine.TheVariants.{Command as CommandLine, Begin as BeginLine}
 use Rattle.batch_nest.specs.declared.nest.NestLine.TheVariants.{Commit as CommitLine, Abort as AbortLine}
 use Rattle.batch_nest.specs.Laws.{commands_among, plain_lines, AllCommitted, WithoutInnerIsBatch, AllCommittedIsPlain, InnerAbortRestores}
-use Rattle.batch_nest.specs.Nest.{Body, done, then_command, then_inner, body_lines, followed_by, nest_course}
+use Rattle.batch_nest.specs.Nest.{Body, done, then_command, then_inner, nest_lines, followed_by, nest_course}
 use Rattle.batch_nest.proofs.ShapeFacts.{heads}
 
 module _ {X : Type 0} where
@@ -22,7 +22,7 @@ module _ {X : Type 0} where
   without_inner contents (command ∷ commands) done is = absurd (cc)
   without_inner contents [] (then_command other later) is = absurd (cc)
   without_inner contents (command ∷ commands) (then_command other later) is =
-      let same = heads (CommandLine command) (CommandLine other) (plain_lines commands) (body_lines later) is in
+      let same = heads (CommandLine command) (CommandLine other) (plain_lines commands) (nest_lines later) is in
       ap (λ k. nest_course contents (then_command k later)) (sym (same_command command other same.0))
       ∙ ap (led_by contents command) (without_inner (effect_of contents command) commands later same.1)
   without_inner contents [] (then_inner inner ending later) is = absurd (cc)
@@ -52,24 +52,24 @@ module _ {X : Type 0} where
 
   -- a body whose inner bodies are all committed has the course of the batch of its commands
   committed_course : (contents : Contents X) (body : Body X) → AllCommitted body
-      → nest_course contents body ≡ batch_course contents (commands_among (body_lines body))
+      → nest_course contents body ≡ batch_course contents (commands_among (nest_lines body))
   committed_course contents done all = refl
   committed_course contents (then_command command later) all =
       ap (led_by contents command) (committed_course (effect_of contents command) later all)
   committed_course contents (then_inner inner Commit later) all =
-      let within = commands_among (body_lines inner) in
-      let after = commands_among (body_lines later) in
+      let within = commands_among (nest_lines inner) in
+      let after = commands_among (nest_lines later) in
       let same = committed_course contents inner all.0 in
       (λ i. followed_by (same i) (nest_course (same i).after later))
       ∙ ap (followed_by (batch_course contents within)) (committed_course (batch_course contents within).after later all.1)
       ∙ sym (batch_in_two contents within after)
-      ∙ ap (batch_course contents) (sym (among-append (body_lines inner) (CommitLine ∷ body_lines later)))
+      ∙ ap (batch_course contents) (sym (among-append (nest_lines inner) (CommitLine ∷ nest_lines later)))
   committed_course contents (then_inner inner Abort later) all = absurd all
 
   -- a nest whose inner bodies are all committed has the course of the nest without the lines that begin and end them
   pub all_committed : AllCommittedIsPlain X
   all_committed contents body plain all is =
-      committed_course contents body all ∙ sym (without_inner contents (commands_among (body_lines body)) plain is)
+      committed_course contents body all ∙ sym (without_inner contents (commands_among (nest_lines body)) plain is)
 
   -- an inner body that ends in abort leaves what was held at its start
   pub inner_abort : InnerAbortRestores X

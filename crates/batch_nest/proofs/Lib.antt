@@ -9,7 +9,6 @@ pub mod OpenFacts
 pub mod OutcomeFacts
 pub mod PrintFacts
 pub mod ReadingFacts
-pub mod RoomFacts
 pub mod Rows
 pub mod ShapeFacts
 pub mod SpaceFacts

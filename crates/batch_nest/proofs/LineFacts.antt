@@ -9,7 +9,7 @@ use Rattle.batch_core.specs.declared.command.End.TheVariants.{Commit, Abort}
 use Rattle.batch_nest.specs.declared.nest.NestLine.{NestLine}
 use Rattle.batch_nest.specs.declared.nest.NestLine.TheVariants.{Command as CommandLine, Begin as BeginLine}
 use Rattle.batch_nest.specs.declared.nest.NestLine.TheVariants.{Commit as CommitLine, Abort as AbortLine}
-use Rattle.batch_nest.specs.Nest.{Body, done, then_command, then_inner, end_line, body_lines, IsBalanced}
+use Rattle.batch_nest.specs.Nest.{Body, done, then_command, then_inner, nest_end, nest_lines, IsBalanced}
 
 -- what comes after an inner body: its end, and what follows
 pub record Rest (X : Type 0) : Type 0 where
@@ -19,8 +19,8 @@ pub record Rest (X : Type 0) : Type 0 where
 module _ {X : Type 0} where
   -- the lines of what is left of a body, and of what comes after each body that is open, the innermost first
   abbrev pub rest_lines : Body X → List (Rest X) → List (NestLine X)
-  rest_lines body [] = body_lines body
-  rest_lines body (rest ∷ rests) = body_lines body ++ end_line rest.ending ∷ rest_lines rest.later rests
+  rest_lines body [] = nest_lines body
+  rest_lines body (rest ∷ rests) = nest_lines body ++ nest_end rest.ending ∷ rest_lines rest.later rests
 
   -- with so many bodies open, the lines close them all
   abbrev pub Closes : ℕ → List (NestLine X) → Type 0
@@ -32,35 +32,35 @@ module _ {X : Type 0} where
   Closes zero (AbortLine ∷ lines) = ⊥
   Closes (suc depth) (AbortLine ∷ lines) = Closes depth lines
 
-  closes_end : (ending : End) (depth : ℕ) (lines : List (NestLine X)) → Closes depth lines → Closes (suc depth) (end_line ending ∷ lines)
+  closes_end : (ending : End) (depth : ℕ) (lines : List (NestLine X)) → Closes depth lines → Closes (suc depth) (nest_end ending ∷ lines)
   closes_end Commit depth lines closes = closes
   closes_end Abort depth lines closes = closes
 
   body_inner : (inner : Body X) (ending : End) (later : Body X) (more : List (NestLine X))
-      → (body_lines inner ++ end_line ending ∷ body_lines later) ++ more
-      ≡ body_lines inner ++ end_line ending ∷ (body_lines later ++ more)
-  body_inner inner ending later more = append_assoc (body_lines inner) (end_line ending ∷ body_lines later) more
+      → (nest_lines inner ++ nest_end ending ∷ nest_lines later) ++ more
+      ≡ nest_lines inner ++ nest_end ending ∷ (nest_lines later ++ more)
+  body_inner inner ending later more = append_assoc (nest_lines inner) (nest_end ending ∷ nest_lines later) more
 
   -- the lines of a body leave open what was open before them
-  closes_body : (body : Body X) (depth : ℕ) (more : List (NestLine X)) → Closes depth more → Closes depth (body_lines body ++ more)
+  closes_body : (body : Body X) (depth : ℕ) (more : List (NestLine X)) → Closes depth more → Closes depth (nest_lines body ++ more)
   closes_body done depth more closes = closes
   closes_body (then_command command later) depth more closes = closes_body later depth more closes
   closes_body (then_inner inner ending later) depth more closes =
       subst (Closes (suc depth)) (sym (body_inner inner ending later more))
-      (closes_body inner (suc depth) (end_line ending ∷ (body_lines later ++ more))
-      (closes_end ending depth (body_lines later ++ more) (closes_body later depth more closes)))
+      (closes_body inner (suc depth) (nest_end ending ∷ (nest_lines later ++ more))
+      (closes_end ending depth (nest_lines later ++ more) (closes_body later depth more closes)))
 
   -- balanced lines close what they open
   pub closes_balanced : (lines : List (NestLine X)) → IsBalanced lines → Closes 0 lines
   closes_balanced lines balanced =
-      subst (Closes 0) (append-nil (body_lines balanced.0) ∙ sym balanced.1) (closes_body balanced.0 0 [] refl)
+      subst (Closes 0) (append-nil (nest_lines balanced.0) ∙ sym balanced.1) (closes_body balanced.0 0 [] refl)
 
   -- lines that close so many bodies are those of a body and of what comes after the open ones
   abbrev Unfolds : ℕ → List (NestLine X) → Type 0
   Unfolds depth lines = (body : Body X) × (rests : List (Rest X)) × (length rests ≡ depth) × (lines ≡ rest_lines body rests)
 
   pub after_inner : (inner : Body X) (ending : End) (later : Body X) (rests : List (Rest X))
-      → BeginLine ∷ (body_lines inner ++ end_line ending ∷ rest_lines later rests) ≡ rest_lines (then_inner inner ending later) rests
+      → BeginLine ∷ (nest_lines inner ++ nest_end ending ∷ rest_lines later rests) ≡ rest_lines (then_inner inner ending later) rests
   after_inner inner ending later [] = refl
   after_inner inner ending later (rest ∷ rests) = ap (λ l. BeginLine ∷ l) (sym (body_inner inner ending later _))
 
@@ -73,12 +73,12 @@ module _ {X : Type 0} where
     ap (λ l. BeginLine ∷ l) is ∙ after_inner inner rest.ending rest.later rests,
   )
 
-  unfolds_end : (ending : End) (depth : ℕ) (lines : List (NestLine X)) → Unfolds depth lines → Unfolds (suc depth) (end_line ending ∷ lines)
+  unfolds_end : (ending : End) (depth : ℕ) (lines : List (NestLine X)) → Unfolds depth lines → Unfolds (suc depth) (nest_end ending ∷ lines)
   unfolds_end ending depth lines (later, rests, many, is) = (
     done,
     record { ending = ending; later = later } ∷ rests,
     omega (arith, many),
-    ap (λ l. end_line ending ∷ l) is,
+    ap (λ l. nest_end ending ∷ l) is,
   )
 
   pub after_command : (command : Command X) (body : Body X) (rests : List (Rest X))

@@ -20,9 +20,10 @@ use Rattle.batch_core.proofs.RunFacts.{along_refused, along_start}
 use Rattle.batch_nest.specs.declared.nest.NestLine.{NestLine}
 use Rattle.batch_nest.specs.declared.nest.NestLine.TheVariants.{Command as CommandLine, Begin as BeginLine}
 use Rattle.batch_nest.specs.declared.nest.NestLine.TheVariants.{Commit as CommitLine, Abort as AbortLine}
-use Rattle.batch_nest.specs.Nest.{Body, done, end_line, body_lines, nest_course}
-use Rattle.batch_nest.specs.Applied.{IsThrough, NestRefusedFor}
-use Rattle.batch_nest.proofs.AlongFacts.{IsAlongAs, along_again, along_further, nest_refused}
+use Rattle.batch_nest.specs.Nest.{Body, done, nest_end, nest_lines, nest_course, nest_places}
+use Rattle.batch_core.specs.Applied.{RefusedFor}
+use Rattle.batch_nest.specs.Applied.{IsThrough}
+use Rattle.batch_nest.proofs.AlongFacts.{IsAlongAs, along_again, along_further, same_refused}
 use Rattle.batch_nest.proofs.LineFacts.{rest_lines}
 use Rattle.batch_nest.proofs.FrameFacts.{Frame, rests_of, marks_of, close_all, close_one, inward, outward_kept, outward_undone}
 use Rattle.batch_nest.proofs.FrameFacts.{GoesBack, IsStacked, stacked_from, stands_first, here, done_goes_back, back_at}
@@ -94,7 +95,7 @@ module _ {X : Type 0} where
 
   -- before the first line
   pub inside_first : (first : Workspace X) (marked : List ℕ) (lines : List (NestLine X)) (whole : Body X) → first.records ≡ []
-      → marked ≡ [] → lines ≡ body_lines whole → length (nest_course first.contents whole).stands ≤ first.capacities.records
+      → marked ≡ [] → lines ≡ nest_lines whole → length (nest_course first.contents whole).stands ≤ first.capacities.records
       → IsInside first first marked 0 lines whole
   inside_first first marked lines whole fresh none is room =
       let course = nest_course first.contents whole in record {
@@ -175,13 +176,14 @@ module _ {X : Type 0} {first now : Workspace X} {marked : List ℕ} {count : ℕ
   -- a command that isn't done refuses the nest
   pub inside_refused : (command : Command X) (ending : End) (cause : Cause)
       → IsInside first now marked count (CommandLine command ∷ left) whole → IsReady now → IsWithin now.capacities now.contents
-      → IsCauseOf now command cause → NestRefusedFor first.room first.contents whole ending cause (count + 1)
+      → IsCauseOf now command cause
+      → RefusedFor first.room (nest_places whole) first.contents (nest_course first.contents whole) ending cause (count + 1)
   inside_refused command ending cause inside ready within is =
       let coming = next_in_batch command inside in
       let batch = coming.1.batch in
-      nest_refused first.room first.contents batch whole ending cause count coming.1.same
-      (along_refused batch first now command (to_come coming.0 (effect_of now.contents command)) ending count cause coming.1.along ready
-      within is)
+      same_refused first.room (nest_places whole) first.contents batch (nest_course first.contents whole) ending cause (count + 1)
+      coming.1.same (along_refused (nest_places whole) batch first now command (to_come coming.0 (effect_of now.contents command)) ending
+      count cause coming.1.along ready within is)
 
   -- after a begin
   pub inside_begin : (marked_next : List ℕ) (mark : ℕ) → IsInside first now marked count (BeginLine ∷ left) whole
@@ -205,7 +207,7 @@ module _ {X : Type 0} {first now : Workspace X} {marked : List ℕ} {count : ℕ
         along = inside.along;
       }
 
-  at_end : (end : End) (inside : IsInside first now marked count (end_line end ∷ left) whole)
+  at_end : (end : End) (inside : IsInside first now marked count (nest_end end ∷ left) whole)
       → IsAtEnd first now marked left whole inside.stands end
   at_end end inside =
       let shape = goes_out inside.body inside.frames end left inside.lines in
@@ -283,7 +285,7 @@ module _ {X : Type 0} {first now : Workspace X} {marked : List ℕ} {count : ℕ
       }
 
   -- there is a mark for an inner body that ends
-  pub mark_for_end : (end : End) → IsInside first now marked count (end_line end ∷ left) whole → 0 < length marked
+  pub mark_for_end : (end : End) → IsInside first now marked count (nest_end end ∷ left) whole → 0 < length marked
   mark_for_end end inside =
       let ended = at_end end inside in
       omega (arith, ap length ended.marks, length-append (marks_of ended.others) (length ended.frame.records ∷ []))

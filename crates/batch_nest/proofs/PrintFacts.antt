@@ -3,42 +3,40 @@ use Rattle.std.proofs.Common.{◌≡◌, ◌⊎◌, ℕ, List, [], ◌∷◌, �
 use Rattle.std.proofs.lemmas.List.{map-append}
 use Rattle.std.specs.Prelude.{codes, bytes_eq, if◌then◌else◌}
 use Rattle.std.specs.List.{AllByRecursion}
-use Rattle.batch_core.specs.declared.command.Command.TheVariants.{Push, Pop, Set, Alloc, Free, Put, Insert, Remove, Truncate}
 use Rattle.batch_core.specs.declared.command.End.{End}
 use Rattle.batch_core.specs.declared.command.End.TheVariants.{Commit, Abort}
 use Rattle.batch_script.specs.Grammar.{Line, TellsBodies, ended_lines}
-use Rattle.batch_script.specs.Grammar.{end_line as written_end}
+use Rattle.batch_script.specs.Grammar.{end_line, numbers_of, word_of}
 use Rattle.batch_script.specs.ReadingLaws.{AllByRecursion-append}
 use Rattle.batch_script.proofs.LineFacts.{known_by_line}
-use Rattle.batch_script.proofs.ScriptFacts.{command_from}
+use Rattle.batch_script.proofs.ScriptFacts.{command_from, command_known, is_bound}
 use Rattle.batch_nest.specs.declared.nest.NestLine.{NestLine}
 use Rattle.batch_nest.specs.declared.nest.NestLine.TheVariants.{Command as CommandLine, Begin as BeginLine}
 use Rattle.batch_nest.specs.declared.nest.NestLine.TheVariants.{Commit as CommitLine, Abort as AbortLine}
-use Rattle.batch_nest.specs.Nest.{Body, body_lines, end_line}
+use Rattle.batch_nest.specs.Nest.{Body, nest_lines, nest_end}
 use Rattle.batch_nest.specs.ReadingLaws.{one_line_word}
 use Rattle.batch_nest.specs.Script.{IsValidLine, line_numbers, line_word, nest_printing, printed_line}
 use Rattle.batch_nest.proofs.ShapeFacts.{heads, same_end}
 use Rattle.batch_nest.proofs.TellFacts.{ends_at, tells}
 
--- the line of a word and its numbers
-abbrev line_from : List ℕ → List ℕ → NestLine ℕ
-line_from word numbers =
+-- the line of a word that begins or ends a batch
+abbrev bound_from : List ℕ → NestLine ℕ
+bound_from word =
     if bytes_eq word (codes "begin") then BeginLine
     else if bytes_eq word (codes "commit") then CommitLine
-    else if bytes_eq word (codes "abort") then AbortLine
-    else CommandLine (command_from word numbers)
+    else AbortLine
+
+-- the line of a word and its numbers
+abbrev line_from : List ℕ → List ℕ → NestLine ℕ
+line_from word numbers = if is_bound word then bound_from word else CommandLine (command_from word numbers)
 
 -- a line is made again of its word and its numbers
 same_again : (line : NestLine ℕ) → line_from (line_word line) (line_numbers line) ≡ line
-same_again (CommandLine (Push value)) = refl
-same_again (CommandLine Pop) = refl
-same_again (CommandLine (Set at value)) = refl
-same_again (CommandLine (Alloc value)) = refl
-same_again (CommandLine (Free id)) = refl
-same_again (CommandLine (Put id value)) = refl
-same_again (CommandLine (Insert number)) = refl
-same_again (CommandLine (Remove number)) = refl
-same_again (CommandLine (Truncate kept)) = refl
+same_again (CommandLine command) =
+    let known = command_known command in
+    ap (λ bound. if bound then bound_from (word_of command) else CommandLine (command_from (word_of command) (numbers_of command)))
+    known.1
+    ∙ ap CommandLine known.0
 same_again BeginLine = refl
 same_again CommitLine = refl
 same_again AbortLine = refl
@@ -79,13 +77,13 @@ one_is_longer (line ∷ lines) (other ∷ others) rest more valid sound same =
 
 -- the lines of a body and the one that ends it
 abbrev pub closed_lines : Body ℕ → End → List (NestLine ℕ)
-closed_lines body ending = body_lines body ++ end_line ending ∷ []
+closed_lines body ending = nest_lines body ++ nest_end ending ∷ []
 
-pub printed_end : (ending : End) → printed_line (end_line ending) ≡ written_end ending
+pub printed_end : (ending : End) → printed_line (nest_end ending) ≡ end_line ending
 printed_end Commit = refl
 printed_end Abort = refl
 
-valid_end : (ending : End) → IsValidLine (end_line ending)
+valid_end : (ending : End) → IsValidLine (nest_end ending)
 valid_end Commit = tt
 valid_end Abort = tt
 
@@ -93,21 +91,21 @@ valid_end Abort = tt
 pub closed_printed : (body : Body ℕ) (ending : End) (rest : List Line)
     → ended_lines nest_printing body ending ++ rest ≡ map printed_line (closed_lines body ending) ++ rest
 closed_printed body ending rest =
-    ap (λ lines. lines ++ rest) (ap (λ line. map printed_line (body_lines body) ++ line ∷ []) (sym (printed_end ending))
-    ∙ sym (map-append printed_line (body_lines body) (end_line ending ∷ [])))
+    ap (λ lines. lines ++ rest) (ap (λ line. map printed_line (nest_lines body) ++ line ∷ []) (sym (printed_end ending))
+    ∙ sym (map-append printed_line (nest_lines body) (nest_end ending ∷ [])))
 
--- and valid where the body is
-pub closed_valid : (body : Body ℕ) (ending : End) → AllByRecursion IsValidLine (body_lines body)
+-- and valid if the body is
+pub closed_valid : (body : Body ℕ) (ending : End) → AllByRecursion IsValidLine (nest_lines body)
     → AllByRecursion IsValidLine (closed_lines body ending)
-closed_valid body ending valid = AllByRecursion-append IsValidLine (body_lines body) (end_line ending ∷ []) valid (valid_end ending, tt)
+closed_valid body ending valid = AllByRecursion-append IsValidLine (nest_lines body) (nest_end ending ∷ []) valid (valid_end ending, tt)
 
 -- a body with its end is no front of another one
 told_by_longer : (body other : Body ℕ) (ending end : End) (rest more : List Line)
     → IsLonger (closed_lines body ending) (closed_lines other end) rest more → (body ≡ other) × (ending ≡ end) × (rest ≡ more)
 told_by_longer body other ending end rest more longer =
-    let parts = tells other body (end_line end ∷ []) (end_line ending ∷ longer.behind) (ends_at end []) (ends_at ending longer.behind)
-    (longer.lines_are ∙ append_assoc (body_lines body) (end_line ending ∷ []) longer.behind) in
-    let ends = heads (end_line end) (end_line ending) [] longer.behind parts.1 in (
+    let parts = tells other body (nest_end end ∷ []) (nest_end ending ∷ longer.behind) (ends_at end []) (ends_at ending longer.behind)
+    (longer.lines_are ∙ append_assoc (nest_lines body) (nest_end ending ∷ []) longer.behind) in
+    let ends = heads (nest_end end) (nest_end ending) [] longer.behind parts.1 in (
       sym parts.0,
       same_end ending end (sym ends.0),
       longer.rest_is ∙ ap (λ behind. map printed_line behind ++ more) (sym ends.1),

@@ -7,7 +7,7 @@ use Rattle.batch_core.specs.declared.command.Command.{Command}
 use Rattle.batch_core.specs.declared.command.End.{End}
 use Rattle.batch_core.specs.declared.command.End.TheVariants.{Commit, Abort}
 use Rattle.batch_script.specs.Grammar.{Line, IsValidItemOver, IsWritable, line_of, lines_of, printed_over}
-use Rattle.batch_script.specs.Grammar.{end_line as written_end, numbers_of, word_of}
+use Rattle.batch_script.specs.Grammar.{end_line, numbers_of, word_of}
 use Rattle.batch_script.specs.Machine.{PlainItem, reserve, show, batch}
 use Rattle.batch_script.specs.Reading.{HasParts, TakesLineOver, first_numbers, first_word, open_lines_over}
 use Rattle.batch_script.specs.ReadingLaws.{AllByRecursion-append}
@@ -20,7 +20,7 @@ use Rattle.batch_nest.specs.declared.nest.NestLine.TheVariants.{Command as Comma
 use Rattle.batch_nest.specs.declared.nest.NestLine.TheVariants.{Commit as CommitLine, Abort as AbortLine}
 use Rattle.batch_nest.specs.declared.parser.NestReading.{NestReading}
 use Rattle.batch_nest.specs.declared.parser.OpenNest.{OpenNest}
-use Rattle.batch_nest.specs.Nest.{IsBalanced, end_line}
+use Rattle.batch_nest.specs.Nest.{IsBalanced, nest_end}
 use Rattle.batch_nest.specs.Reading.{HasReadNests, HaveRead, IsOpenNest, StandFor, StandsForItem, TakesNestLine, open_printing}
 use Rattle.batch_nest.specs.ReadingLaws.{one_line_word}
 use Rattle.batch_nest.specs.Script.{PlainNestItem, IsNestOpen, IsNestScript, IsValidLine}
@@ -88,8 +88,8 @@ takes_parts old new known word numbers is are takes = λ lines line has was.
     (takes lines (subst (AllByRecursion IsWritable) are has.writable) was)
 
 -- so with the word of an end and no numbers
-pub takes_end_word : (old new : NestReading) (ending : End) (word numbers : List ℕ) → word ≡ written_end ending → numbers ≡ []
-    → TakesNestLine old new (end_line ending) → TakesLineOver HasReadNests HasReadNests old new word numbers
+pub takes_end_word : (old new : NestReading) (ending : End) (word numbers : List ℕ) → word ≡ end_line ending → numbers ≡ []
+    → TakesNestLine old new (nest_end ending) → TakesLineOver HasReadNests HasReadNests old new word numbers
 takes_end_word old new Commit word numbers = takes_parts old new CommitLine word numbers
 takes_end_word old new Abort word numbers = takes_parts old new AbortLine word numbers
 
@@ -97,16 +97,16 @@ takes_end_word old new Abort word numbers = takes_parts old new AbortLine word n
 pub read_nest_end : (items : List NestItem) (item : NestItem) (begun : OpenNest) (lines : List Line) (ending : End)
     → HaveRead items (Some begun) lines → begun.depth ≡ 0
     → ((balanced : IsBalanced begun.lines.items) → StandsForItem item (batch balanced.0 ending))
-    → HaveRead (items ++ item ∷ []) None (lines ++ printed_line (end_line ending) ∷ [])
+    → HaveRead (items ++ item ∷ []) None (lines ++ printed_line (nest_end ending) ∷ [])
 read_nest_end items item begun lines ending was none stands =
     let balanced = balanced_at_none begun.lines.items begun.depth none was.2.valid_open.balanced in
-    ends_item items (Some begun) item (batch balanced.0 ending) lines (printed_line (end_line ending)) was (stands balanced)
+    ends_item items (Some begun) item (batch balanced.0 ending) lines (printed_line (nest_end ending)) was (stands balanced)
     (subst (AllByRecursion IsValidLine) balanced.1 was.2.valid_open.valid)
     (λ i. codes "begin" ∷ (map printed_line (balanced.1 i) ++ printed_end ending i ∷ []))
 
 -- a word and numbers that are no command, end no batch and begin none are no line of a nest
 pub no_line_word : (word numbers : List ℕ) → ((command : Command ℕ) → numbers_of command ≡ numbers → word_of command ≢ word)
-    → ((ending : End) → numbers ≡ [] → written_end ending ≢ word) → (numbers ≡ [] → codes "begin" ≢ word)
+    → ((ending : End) → numbers ≡ [] → end_line ending ≢ word) → (numbers ≡ [] → codes "begin" ≢ word)
     → (line : NestLine ℕ) → line_numbers line ≡ numbers → line_word line ≢ word
 no_line_word word numbers no_command no_end no_begin (CommandLine command) = no_command command
 no_line_word word numbers no_command no_end no_begin BeginLine = λ are. no_begin (sym are)

@@ -13,7 +13,7 @@ use Rattle.batch_script.proofs.ShownFacts.{shows}
 use Rattle.batch_nest.specs.Nest.{done, then_command, then_inner}
 use Rattle.batch_nest.specs.Script.{PlainNestItem, nest_bodies, nest_printing}
 
--- the lines of the replies to items, where memory is found
+-- the lines of the replies to items, if memory is found
 abbrev replied : List PlainNestItem → List Line
 replied items = flat_map reply_lines (replies_over nest_bodies empty_state items)
 

@@ -5,7 +5,7 @@ use Rattle.batch_core.specs.declared.command.End.{End}
 use Rattle.batch_core.specs.declared.command.End.TheVariants.{Commit, Abort}
 use Rattle.batch_nest.specs.declared.nest.NestLine.{NestLine}
 use Rattle.batch_nest.specs.declared.nest.NestLine.TheVariants.{Command as CommandLine, Begin as BeginLine}
-use Rattle.batch_nest.specs.Nest.{Body, done, then_command, then_inner, end_line}
+use Rattle.batch_nest.specs.Nest.{Body, done, then_command, then_inner, nest_end}
 use Rattle.batch_nest.proofs.LineFacts.{Rest, rest_lines, after_command, after_inner}
 use Rattle.batch_nest.proofs.FrameFacts.{Frame, rests_of}
 
@@ -32,15 +32,15 @@ module _ {X : Type 0} where
     pub ending : frame.rest.ending ≡ end
     pub lines : left ≡ rest_lines frame.rest.later (rests_of others)
 
-  command_not_end : (ending : End) (command : Command X) → CommandLine command ≡ end_line ending → ⊥
+  command_not_end : (ending : End) (command : Command X) → CommandLine command ≡ nest_end ending → ⊥
   command_not_end Commit command same = cc
   command_not_end Abort command same = cc
 
-  begin_not_end : (ending : End) → ◌≡◌ {A = NestLine X} BeginLine (end_line ending) → ⊥
+  begin_not_end : (ending : End) → ◌≡◌ {A = NestLine X} BeginLine (nest_end ending) → ⊥
   begin_not_end Commit same = cc
   begin_not_end Abort same = cc
 
-  pub same_end : (a b : End) → ◌≡◌ {A = NestLine X} (end_line a) (end_line b) → a ≡ b
+  pub same_end : (a b : End) → ◌≡◌ {A = NestLine X} (nest_end a) (nest_end b) → a ≡ b
   same_end Commit Commit same = refl
   same_end Commit Abort same = absurd (cc)
   same_end Abort Commit same = absurd (cc)
@@ -53,7 +53,7 @@ module _ {X : Type 0} where
       → CommandLine command ∷ lines ≡ rest_lines body rests → GoesOn body rests command lines
   goes_on done [] command lines is = absurd (cc)
   goes_on done (rest ∷ rests) command lines is =
-      absurd (command_not_end rest.ending command (heads _ (end_line rest.ending) lines _ is).0)
+      absurd (command_not_end rest.ending command (heads _ (nest_end rest.ending) lines _ is).0)
   goes_on (then_command other later) rests command lines is =
       let same = heads (CommandLine command) (CommandLine other) lines (rest_lines later rests)
       (is ∙ sym (after_command other later rests)) in
@@ -66,7 +66,7 @@ module _ {X : Type 0} where
   pub goes_in : (body : Body X) (rests : List (Rest X)) (lines : List (NestLine X)) → BeginLine ∷ lines ≡ rest_lines body rests
       → GoesIn body rests lines
   goes_in done [] lines is = absurd (cc)
-  goes_in done (rest ∷ rests) lines is = absurd (begin_not_end rest.ending (heads _ (end_line rest.ending) lines _ is).0)
+  goes_in done (rest ∷ rests) lines is = absurd (begin_not_end rest.ending (heads _ (nest_end rest.ending) lines _ is).0)
   goes_in (then_command other later) rests lines is =
       let same = heads BeginLine (CommandLine other) lines (rest_lines later rests) (is ∙ sym (after_command other later rests)) in
       let differ = same.0 in absurd (cc)
@@ -75,10 +75,10 @@ module _ {X : Type 0} where
       record { inner = inner; rest = record { ending = ending; later = later }; body = refl; lines = same.1 }
 
   pub goes_out : (body : Body X) (frames : List (Frame X)) (ending : End) (lines : List (NestLine X))
-      → end_line ending ∷ lines ≡ rest_lines body (rests_of frames) → GoesOut body frames ending lines
+      → nest_end ending ∷ lines ≡ rest_lines body (rests_of frames) → GoesOut body frames ending lines
   goes_out done [] ending lines is = absurd (cc)
   goes_out done (frame ∷ frames) ending lines is =
-      let same = heads (end_line ending) (end_line frame.rest.ending) lines _ is in record {
+      let same = heads (nest_end ending) (nest_end frame.rest.ending) lines _ is in record {
         frame = frame;
         others = frames;
         body = refl;
@@ -87,10 +87,10 @@ module _ {X : Type 0} where
         lines = same.1;
       }
   goes_out (then_command other later) frames ending lines is =
-      let same = heads (end_line ending) (CommandLine other) lines _ (is ∙ sym (after_command other later (rests_of frames))) in
+      let same = heads (nest_end ending) (CommandLine other) lines _ (is ∙ sym (after_command other later (rests_of frames))) in
       absurd (command_not_end ending other (sym same.0))
   goes_out (then_inner inner end later) frames ending lines is =
-      let same = heads (end_line ending) BeginLine lines _ (is ∙ sym (after_inner inner end later (rests_of frames))) in
+      let same = heads (nest_end ending) BeginLine lines _ (is ∙ sym (after_inner inner end later (rests_of frames))) in
       absurd (begin_not_end ending (sym same.0))
 
   -- no line is left: the body is at its end, and no other one is open

@@ -1,61 +1,50 @@
--- The lines of a body lead back to it, items that stand for plain items are these, and applying a nest is applying its body.
-use Rattle.std.proofs.Common.{◌≡◌, ℕ, List, [], ◌∷◌, ◌++◌, map, refl, sym, ap, ◌∙◌, append_assoc}
+-- The lines of a body lead back to it, and items that stand for plain items are these.
+use Rattle.std.proofs.Common.{◌≡◌, List, [], ◌∷◌, ◌++◌, map, refl, sym, ap, ◌∙◌, append_assoc}
 use Rattle.std.proofs.lemmas.List.{append-nil}
 use Rattle.std.specs.List.{AllByRecursion}
-use Rattle.std.specs.declared.result.Result.{Result}
-use Rattle.std.specs.declared.result.Result.TheVariants.{Ok, Err}
-use Rattle.std.specs.Prelude.{IfErr}
-use Rattle.batch_core.specs.Workspace.{IsOom, Workspace}
-use Rattle.batch_core.specs.declared.answer.Done.{Done}
-use Rattle.batch_core.specs.declared.answer.Done.TheVariants.{Committed, Aborted}
-use Rattle.batch_core.specs.declared.answer.Refusal.{Refusal}
-use Rattle.batch_core.specs.declared.command.Cause.{Cause}
-use Rattle.batch_core.specs.declared.command.Cause.TheVariants.{Empty, Position, Vacant, Full, TooLarge, Oom}
 use Rattle.batch_core.specs.declared.command.End.{End}
 use Rattle.batch_core.specs.declared.command.End.TheVariants.{Commit, Abort}
 use Rattle.batch_script.specs.Machine.{reserve, show, batch}
-use Rattle.batch_script.specs.Space.{AppliedOver, RefusedOver}
-use Rattle.batch_nest.specs.Applied.{FitsNest, IsNestApplied, NestRefusedFor}
 use Rattle.batch_nest.specs.declared.item.NestItem.{NestItem}
 use Rattle.batch_nest.specs.declared.item.NestItem.TheVariants.{Reserve, Show, Nest as NestOf}
 use Rattle.batch_nest.specs.declared.nest.NestLine.{NestLine}
-use Rattle.batch_nest.specs.Nest.{Body, done, then_command, then_inner, body_lines, end_line, IsBalanced}
+use Rattle.batch_nest.specs.Nest.{Body, done, then_command, then_inner, nest_lines, nest_end, IsBalanced}
 use Rattle.batch_nest.specs.Reading.{StandFor, StandsForItem}
-use Rattle.batch_nest.specs.Script.{PlainNestItem, nest_bodies}
+use Rattle.batch_nest.specs.Script.{PlainNestItem}
 use Rattle.batch_nest.specs.Space.{FromLast, MayRun, body_of, from_last, plain_nest_item, with_begin, with_end}
 
 module _ {X : Type 0} where
-  from_end : (ending : End) (lines : List (NestLine X)) → from_last (end_line ending ∷ lines) ≡ with_end ending (from_last lines)
+  from_end : (ending : End) (lines : List (NestLine X)) → from_last (nest_end ending ∷ lines) ≡ with_end ending (from_last lines)
   from_end Commit lines = refl
   from_end Abort lines = refl
 
   -- the lines of a body in front of lines that begin with none
   from_body : (body : Body X) (lines : List (NestLine X)) → (from_last lines).body ≡ done
-      → from_last (body_lines body ++ lines) ≡ record { body = body; outer = (from_last lines).outer }
+      → from_last (nest_lines body ++ lines) ≡ record { body = body; outer = (from_last lines).outer }
   from_body done lines none = λ i. record { body = none i; outer = (from_last lines).outer }
   from_body (then_command command later) lines none =
       ap (λ (last : FromLast X). record { body = then_command command last.body; outer = last.outer }) (from_body later lines none)
   from_body (then_inner inner ending later) lines none =
-      let rest = body_lines later ++ lines in
+      let rest = nest_lines later ++ lines in
       let ended = from_end ending rest in
-      let after : from_last (body_lines inner ++ end_line ending ∷ rest)
+      let after : from_last (nest_lines inner ++ nest_end ending ∷ rest)
       ≡ record { body = inner; outer = (ending, later) ∷ (from_last lines).outer } =
-      from_body inner (end_line ending ∷ rest) (ap (λ (last : FromLast X). last.body) ended)
+      from_body inner (nest_end ending ∷ rest) (ap (λ (last : FromLast X). last.body) ended)
       ∙ ap (λ outer. record { body = inner; outer = outer }) (ap (λ (last : FromLast X). last.outer) ended
       ∙ ap (λ (last : FromLast X). (ending, last.body) ∷ last.outer) (from_body later lines none)) in
       ap (λ lines. with_begin (from_last lines).body (from_last lines).outer)
-      (append_assoc (body_lines inner) (end_line ending ∷ body_lines later) lines)
+      (append_assoc (nest_lines inner) (nest_end ending ∷ nest_lines later) lines)
       ∙ ap (λ (last : FromLast X). with_begin last.body last.outer) after
 
   -- the lines of a body lead back to it
-  pub body_again : (body : Body X) → body_of (body_lines body) ≡ body
+  pub body_again : (body : Body X) → body_of (nest_lines body) ≡ body
   body_again body =
-      ap body_of (sym (append-nil (body_lines body))) ∙ ap (λ (last : FromLast X). last.body) (from_body body [] refl)
+      ap body_of (sym (append-nil (nest_lines body))) ∙ ap (λ (last : FromLast X). last.body) (from_body body [] refl)
 
   -- so balanced lines are those of the body that they lead to
-  pub lines_again : (lines : List (NestLine X)) → IsBalanced lines → lines ≡ body_lines (body_of lines)
+  pub lines_again : (lines : List (NestLine X)) → IsBalanced lines → lines ≡ nest_lines (body_of lines)
   lines_again lines balanced =
-      balanced.1 ∙ ap body_lines (sym (body_again balanced.0) ∙ ap body_of (sym balanced.1))
+      balanced.1 ∙ ap nest_lines (sym (body_again balanced.0) ∙ ap body_of (sym balanced.1))
 
 -- an item that stands for a plain item is that one, and may be run
 same_item : (item : NestItem) (plain : PlainNestItem) → StandsForItem item plain → (plain_nest_item item ≡ plain) × MayRun item
@@ -81,23 +70,3 @@ same_items (item ∷ items) (plain ∷ plains) stand =
     let first = same_item item plain stand.0 in
     let later = same_items items plains stand.1 in
     ((λ i. first.0 i ∷ later.0 i), (first.1, later.1))
-
--- a refusal that isn't for memory is the outcome; for memory only what doesn't fit is refused
-refused_over : (old : Workspace ℕ) (body : Body ℕ) (ending : End) (cause : Cause) (at : ℕ)
-    → NestRefusedFor old.room old.contents body ending cause at → (FitsNest old.room old.contents body → ¬ IsOom cause)
-    → RefusedOver nest_bodies old body ending cause at
-refused_over old body ending (Oom size) at refused never = λ fits. never fits tt
-refused_over old body ending Empty at refused never = refused
-refused_over old body ending Position at refused never = refused
-refused_over old body ending Vacant at refused never = refused
-refused_over old body ending Full at refused never = refused
-refused_over old body ending TooLarge at refused never = refused
-
--- what a nest came to is what its body comes to
-pub applied_over : (old : Workspace ℕ) (body : Body ℕ) (ending : End) (result : Result Done Refusal) (new : Workspace ℕ)
-    → IsNestApplied old body ending result new → (FitsNest old.room old.contents body → IfErr result (λ r. ¬ IsOom r.cause))
-    → AppliedOver nest_bodies old body ending result new
-applied_over old body ending (Ok Committed) new applied never = applied
-applied_over old body ending (Ok Aborted) new applied never = applied.0
-applied_over old body ending (Err refusal) new applied never =
-    (applied.0, refused_over old body ending refusal.cause refusal.at applied.2 never)

@@ -8,7 +8,7 @@ use Rattle.batch_nest.specs.declared.nest.NestLine.{NestLine}
 use Rattle.batch_nest.specs.declared.nest.NestLine.TheVariants.{Command as CommandLine, Begin as BeginLine}
 use Rattle.batch_nest.specs.declared.nest.NestLine.TheVariants.{Commit as CommitLine, Abort as AbortLine}
 use Rattle.batch_nest.specs.Laws.{LinesTellTheBody}
-use Rattle.batch_nest.specs.Nest.{Body, done, then_command, then_inner, end_line, body_lines}
+use Rattle.batch_nest.specs.Nest.{Body, done, then_command, then_inner, nest_end, nest_lines}
 use Rattle.batch_nest.proofs.LawFacts.{same_command}
 use Rattle.batch_nest.proofs.ShapeFacts.{heads, same_end}
 
@@ -22,37 +22,37 @@ module _ {X : Type 0} where
   EndsHere (AbortLine ∷ lines) = ⊤
 
   -- an end of a body does
-  pub ends_at : (ending : End) (lines : List (NestLine X)) → EndsHere (end_line ending ∷ lines)
+  pub ends_at : (ending : End) (lines : List (NestLine X)) → EndsHere (nest_end ending ∷ lines)
   ends_at Commit lines = tt
   ends_at Abort lines = tt
 
   -- the lines of two bodies, each up to its end, tell the bodies and what follows them
-  pub tells : (a b : Body X) (x y : List (NestLine X)) → EndsHere x → EndsHere y → body_lines a ++ x ≡ body_lines b ++ y → (a ≡ b) × (x ≡ y)
+  pub tells : (a b : Body X) (x y : List (NestLine X)) → EndsHere x → EndsHere y → nest_lines a ++ x ≡ nest_lines b ++ y → (a ≡ b) × (x ≡ y)
   tells done done x y end other same = (refl, same)
   tells done (then_command command later) x y end other same = absurd (subst EndsHere same end)
   tells done (then_inner inner ending later) x y end other same = absurd (subst EndsHere same end)
   tells (then_command command later) done x y end other same = absurd (subst EndsHere (sym same) other)
   tells (then_inner inner ending later) done x y end other same = absurd (subst EndsHere (sym same) other)
   tells (then_command command later) (then_command named more) x y end other same =
-      let both = heads (CommandLine command) (CommandLine named) (body_lines later ++ x) (body_lines more ++ y) same in
+      let both = heads (CommandLine command) (CommandLine named) (nest_lines later ++ x) (nest_lines more ++ y) same in
       let rest = tells later more x y end other both.1 in
       (λ i. then_command (same_command command named both.0 i) (rest.0 i), rest.1)
   tells (then_command command later) (then_inner inner ending more) x y end other same =
-      let differ = (heads (CommandLine command) BeginLine (body_lines later ++ x) _ same).0 in absurd (cc)
+      let differ = (heads (CommandLine command) BeginLine (nest_lines later ++ x) _ same).0 in absurd (cc)
   tells (then_inner inner ending later) (then_command command more) x y end other same =
-      let differ = (heads BeginLine (CommandLine command) _ (body_lines more ++ y) same).0 in absurd (cc)
+      let differ = (heads BeginLine (CommandLine command) _ (nest_lines more ++ y) same).0 in absurd (cc)
   tells (then_inner inner ending later) (then_inner within closing more) x y end other same =
-      let both = heads BeginLine BeginLine ((body_lines inner ++ end_line ending ∷ body_lines later) ++ x)
-      ((body_lines within ++ end_line closing ∷ body_lines more) ++ y) same in
-      let inside = tells inner within (end_line ending ∷ (body_lines later ++ x)) (end_line closing ∷ (body_lines more ++ y))
-      (ends_at ending (body_lines later ++ x)) (ends_at closing (body_lines more ++ y))
-      (sym (append_assoc (body_lines inner) (end_line ending ∷ body_lines later) x) ∙ both.1
-      ∙ append_assoc (body_lines within) (end_line closing ∷ body_lines more) y) in
-      let ended = heads (end_line ending) (end_line closing) (body_lines later ++ x) (body_lines more ++ y) inside.1 in
+      let both = heads BeginLine BeginLine ((nest_lines inner ++ nest_end ending ∷ nest_lines later) ++ x)
+      ((nest_lines within ++ nest_end closing ∷ nest_lines more) ++ y) same in
+      let inside = tells inner within (nest_end ending ∷ (nest_lines later ++ x)) (nest_end closing ∷ (nest_lines more ++ y))
+      (ends_at ending (nest_lines later ++ x)) (ends_at closing (nest_lines more ++ y))
+      (sym (append_assoc (nest_lines inner) (nest_end ending ∷ nest_lines later) x) ∙ both.1
+      ∙ append_assoc (nest_lines within) (nest_end closing ∷ nest_lines more) y) in
+      let ended = heads (nest_end ending) (nest_end closing) (nest_lines later ++ x) (nest_lines more ++ y) inside.1 in
       let rest = tells later more x y end other ended.1 in
       (λ i. then_inner (inside.0 i) (same_end ending closing ended.0 i) (rest.0 i), rest.1)
 
   -- the lines of a nest tell its body
   pub lines_tell : LinesTellTheBody X
   lines_tell body other same =
-      (tells body other [] [] tt tt (append-nil (body_lines body) ∙ same ∙ sym (append-nil (body_lines other)))).0
+      (tells body other [] [] tt tt (append-nil (nest_lines body) ∙ same ∙ sym (append-nil (nest_lines other)))).0

@@ -7,7 +7,7 @@ use Rattle.batch_core.specs.declared.command.End.TheVariants.{Commit, Abort}
 use Rattle.batch_nest.specs.declared.nest.NestLine.{NestLine}
 use Rattle.batch_nest.specs.declared.nest.NestLine.TheVariants.{Command as CommandLine, Begin as BeginLine}
 use Rattle.batch_nest.specs.declared.nest.NestLine.TheVariants.{Commit as CommitLine, Abort as AbortLine}
-use Rattle.batch_nest.specs.Nest.{Body, done, then_command, then_inner, body_lines, nest_course}
+use Rattle.batch_nest.specs.Nest.{Body, done, then_command, then_inner, nest_lines, nest_course}
 use Rattle.batch_nest.specs.Applied.{FitsNest}
 
 module _ {T : Type 0} where
@@ -34,14 +34,14 @@ module _ {T : Type 0} where
 abbrev pub WithoutInnerIsBatch : Type 0 → Type 0
 WithoutInnerIsBatch T =
     (contents : Contents T) (commands : List (Command T)) (body : Body T)
-    → plain_lines commands ≡ body_lines body
+    → plain_lines commands ≡ nest_lines body
     → nest_course contents body ≡ batch_course contents commands
 
 -- a nest whose inner bodies are all committed has the course of the nest without the lines that begin and end them
 abbrev pub AllCommittedIsPlain : Type 0 → Type 0
 AllCommittedIsPlain T =
     (contents : Contents T) (body plain : Body T)
-    → AllCommitted body → plain_lines (commands_among (body_lines body)) ≡ body_lines plain
+    → AllCommitted body → plain_lines (commands_among (nest_lines body)) ≡ nest_lines plain
     → nest_course contents body ≡ nest_course contents plain
 
 -- an inner body that ends in abort leaves what was held at its start, and no records: what follows it ends as if it weren't there
@@ -53,7 +53,7 @@ InnerAbortRestores T =
 
 -- lines are those of one body alone
 abbrev pub LinesTellTheBody : Type 0 → Type 0
-LinesTellTheBody T = (body other : Body T) → body_lines body ≡ body_lines other → body ≡ other
+LinesTellTheBody T = (body other : Body T) → nest_lines body ≡ nest_lines other → body ≡ other
 
 -- a nest that fits a room fits every larger one
 abbrev pub FitsLargerRooms : Type 0 → Type 0

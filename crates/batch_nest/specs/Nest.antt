@@ -1,5 +1,5 @@
 -- Bodies: commands and inner bodies in the order of their lines, and what they come to.
-use Rattle.std.specs.Prelude.{◌≡◌, ℕ, ◌+◌, List, [], ◌∷◌, ◌++◌}
+use Rattle.std.specs.Prelude.{◌≡◌, ℕ, ◌+◌, max, List, [], ◌∷◌, ◌++◌}
 use Rattle.batch_core.specs.State.{Contents}
 use Rattle.batch_core.specs.Command.{effect_of}
 use Rattle.batch_core.specs.Course.{Course, led_by}
@@ -18,19 +18,19 @@ pub data Body (T : Type 0) : Type 0 where
 
 module _ {T : Type 0} where
   -- the line that ends an inner body
-  abbrev pub end_line : End → NestLine T
-  end_line Commit = CommitLine
-  end_line Abort = AbortLine
+  abbrev pub nest_end : End → NestLine T
+  nest_end Commit = CommitLine
+  nest_end Abort = AbortLine
 
   -- the lines of a body
-  abbrev pub body_lines : Body T → List (NestLine T)
-  body_lines done = []
-  body_lines (then_command command later) = CommandLine command ∷ body_lines later
-  body_lines (then_inner inner ending later) = BeginLine ∷ body_lines inner ++ end_line ending ∷ body_lines later
+  abbrev pub nest_lines : Body T → List (NestLine T)
+  nest_lines done = []
+  nest_lines (then_command command later) = CommandLine command ∷ nest_lines later
+  nest_lines (then_inner inner ending later) = BeginLine ∷ nest_lines inner ++ nest_end ending ∷ nest_lines later
 
   -- each end closes an earlier begin, and none stays open: the lines are those of a body
   abbrev pub IsBalanced : List (NestLine T) → Type 0
-  IsBalanced lines = (body : Body T) × (lines ≡ body_lines body)
+  IsBalanced lines = (body : Body T) × (lines ≡ nest_lines body)
 
   -- how many of the lines are commands
   abbrev pub command_lines : List (NestLine T) → ℕ
@@ -69,3 +69,8 @@ module _ {T : Type 0} where
   nest_course contents (then_inner inner ending later) =
       followed_by (left_by contents (nest_course contents inner) ending)
       (nest_course (left_by contents (nest_course contents inner) ending).after later)
+
+  -- so many places a nest of this body needs to begin: one for the record of each command, or, if there are more of them, one for the
+  -- mark of each inner body
+  abbrev pub nest_places : Body T → ℕ
+  nest_places body = max (command_lines (nest_lines body)) (begin_lines (nest_lines body))

@@ -10,14 +10,14 @@ use Rattle.batch_nest.specs.declared.nest.NestLine.{NestLine}
 use Rattle.batch_nest.specs.declared.nest.NestLine.TheVariants.{Commit as CommitLine}
 use Rattle.batch_nest.specs.declared.parser.NestReading.{NestReading}
 use Rattle.batch_nest.specs.declared.parser.OpenNest.{OpenNest}
-use Rattle.batch_nest.specs.Nest.{body_lines, IsBalanced}
+use Rattle.batch_nest.specs.Nest.{nest_lines, IsBalanced}
 use Rattle.batch_nest.specs.Script.{PlainNestItem, IsValidLine, nest_printing, printed_line}
 
 -- an item of the parser stands for this one: a nest has the lines of its body
 abbrev pub StandsForItem : NestItem → PlainNestItem → Type 0
 StandsForItem (Reserve number) (reserve amount) = number ≡ amount
 StandsForItem Show show = ⊤
-StandsForItem (NestOf nest) (batch body ending) = (nest.lines.items ≡ body_lines body) × (nest.end ≡ ending)
+StandsForItem (NestOf nest) (batch body ending) = (nest.lines.items ≡ nest_lines body) × (nest.end ≡ ending)
 StandsForItem (Reserve number) show = ⊥
 StandsForItem (Reserve number) (batch body ending) = ⊥
 StandsForItem Show (reserve amount) = ⊥
@@ -55,7 +55,7 @@ HaveRead items begun lines =
 abbrev pub HasReadNests : NestReading → List Line → Type 0
 HasReadNests reading lines = HaveRead reading.items.items reading.begun lines
 
--- where the reading had taken lines, it takes this line of a nest behind them
+-- if the reading had taken lines, it takes this line of a nest behind them
 abbrev pub TakesNestLine : NestReading → NestReading → NestLine ℕ → Type 0
 TakesNestLine old new line =
     (lines : List Line) → IsValidLine line → HasReadNests old lines → HasReadNests new (lines ++ printed_line line ∷ [])

@@ -11,7 +11,7 @@ use Rattle.batch_nest.specs.declared.nest.NestLine.{NestLine}
 use Rattle.batch_nest.specs.declared.nest.NestLine.TheVariants.{Command as CommandLine, Begin as BeginLine}
 use Rattle.batch_nest.specs.declared.nest.NestLine.TheVariants.{Commit as CommitLine, Abort as AbortLine}
 use Rattle.batch_nest.specs.declared.parser.NestReading.{NestReading}
-use Rattle.batch_nest.specs.Nest.{body_lines}
+use Rattle.batch_nest.specs.Nest.{nest_lines}
 use Rattle.batch_nest.specs.Reading.{HasReadNests, commits, open_printing}
 use Rattle.batch_nest.specs.Script.{IsNestOpen, IsValidLine, line_numbers, line_word, nest_printing, printed_line}
 
@@ -40,7 +40,7 @@ line_has_parts line valid = (
 
 -- and so is each line of a valid body
 pub nests_have_parts : HasPartsThroughout nest_printing
-nests_have_parts body valid = all_have_parts IsValidLine printed_line line_has_parts (body_lines body) valid
+nests_have_parts body valid = all_have_parts IsValidLine printed_line line_has_parts (nest_lines body) valid
 
 commits_are_valid : (depth : ℕ) → AllByRecursion IsValidLine (commits depth)
 commits_are_valid zero = tt

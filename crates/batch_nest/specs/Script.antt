@@ -1,7 +1,8 @@
 -- Scripts of nests: what the bodies of their items come to, how they are printed, and which inputs they are.
 use Rattle.std.specs.Prelude.{ℕ, List, [], map, codes}
 use Rattle.std.specs.List.{AllByRecursion}
-use Rattle.batch_script.specs.Grammar.{Line, Printing, IsWritable, line_of, word_of, numbers_of}
+use Rattle.batch_core.specs.declared.command.End.TheVariants.{Commit, Abort}
+use Rattle.batch_script.specs.Grammar.{Line, Printing, IsWritable, line_of, word_of, numbers_of, end_line}
 use Rattle.batch_script.specs.Grammar.{IsScriptOver, IsFaultLineOver, IsOpenOver}
 use Rattle.batch_script.specs.Machine.{Bodies, ItemOf}
 use Rattle.batch_script.specs.Refusal.{IsJustifiedBy}
@@ -10,12 +11,11 @@ use Rattle.batch_script.specs.declared.run_error.RunError.{RunError}
 use Rattle.batch_nest.specs.declared.nest.NestLine.{NestLine}
 use Rattle.batch_nest.specs.declared.nest.NestLine.TheVariants.{Command as CommandLine, Begin as BeginLine}
 use Rattle.batch_nest.specs.declared.nest.NestLine.TheVariants.{Commit as CommitLine, Abort as AbortLine}
-use Rattle.batch_nest.specs.Nest.{Body, body_lines, nest_course}
-use Rattle.batch_nest.specs.Applied.{FitsNest}
+use Rattle.batch_nest.specs.Nest.{Body, nest_lines, nest_course, nest_places}
 
--- what a body comes to, and when it fits a room
+-- what a body comes to, and how many places it needs to begin
 abbrev pub nest_bodies : Bodies (Body ℕ)
-nest_bodies = record { course = nest_course; fits = FitsNest }
+nest_bodies = record { course = nest_course; places = nest_places }
 
 -- one item of a script of nests: a nest has its body and its end
 abbrev pub PlainNestItem : Type 0
@@ -25,8 +25,8 @@ PlainNestItem = ItemOf (Body ℕ)
 abbrev pub line_word : NestLine ℕ → List ℕ
 line_word (CommandLine command) = word_of command
 line_word BeginLine = codes "begin"
-line_word CommitLine = codes "commit"
-line_word AbortLine = codes "abort"
+line_word CommitLine = end_line Commit
+line_word AbortLine = end_line Abort
 
 -- the numbers that follow it
 abbrev pub line_numbers : NestLine ℕ → List ℕ
@@ -46,8 +46,8 @@ IsValidLine line = AllByRecursion IsWritable (line_numbers line)
 -- a body is printed as its lines, which have only numbers that a script can write
 abbrev pub nest_printing : Printing (Body ℕ)
 nest_printing = record {
-  body_lines = λ body. map printed_line (body_lines body);
-  is_valid = λ body. AllByRecursion IsValidLine (body_lines body);
+  body_lines = λ body. map printed_line (nest_lines body);
+  is_valid = λ body. AllByRecursion IsValidLine (nest_lines body);
 }
 
 -- the input is a script of nests

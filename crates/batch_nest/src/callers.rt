@@ -3,7 +3,7 @@ ghost use Rattle.std.specs.Prelude.{◌≡◌, ◌++◌, IfOk, IfErr, OnOk, OnEr
 ghost use Rattle.batch_core.specs.Command.{effect_of, records_of};
 ghost use Rattle.batch_core.specs.Workspace.{IsOom};
 ghost use Rattle.batch_nest.specs.Applied.{OfBody, FitsNest};
-ghost use Rattle.batch_nest.specs.Nest.{IsBalanced, body_lines};
+ghost use Rattle.batch_nest.specs.Nest.{IsBalanced, nest_lines};
 ghost use Rattle.batch_nest.specs.Savepoint.{around_savepoint};
 
 use crate::laws::law_larger_room;
@@ -22,7 +22,7 @@ fn savepoint_lines<T: Drop>(
     last: Command<T>,
 ) -> Result<TryVec<NestLine<T>>, OutOfMemory>
     ensures lines { IfOk result (λ lines.
-        lines.items ≡ body_lines (around_savepoint kept tried last)) }
+        lines.items ≡ nest_lines (around_savepoint kept tried last)) }
 {
     let mut lines = TryVec::with_capacity(alloc, 5)?;
     lines.push(NestLine::Command(kept))?;

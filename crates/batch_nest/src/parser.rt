@@ -6,7 +6,7 @@ ghost use Rattle.batch_script.specs.Reading.{RefusesLineOver, TakesLineOver, lis
 ghost use Rattle.batch_nest.specs.Reading.{HasReadNests, StandFor, TakesNestLine};
 ghost use Rattle.batch_nest.specs.Script.{IsNestJustified, nest_printing};
 ghost use Rattle.batch_nest.specs.declared.nest.NestLine.{NestLine};
-ghost use Rattle.batch_nest.specs.Nest.{end_line};
+ghost use Rattle.batch_nest.specs.Nest.{nest_end};
 
 use crate::item::{NestItem, NestScript};
 use crate::nest::{Nest, NestLine};
@@ -45,7 +45,7 @@ impl OpenNest {
     fn end_inner(&mut self, end: End) -> Result<(), OutOfMemory>
         requires some_open { 0 < self.old.depth }
         ensures adds { OnOk result (
-            (self.new.lines.items ≡ self.old.lines.items ++ end_line end ∷ [])
+            (self.new.lines.items ≡ self.old.lines.items ++ nest_end end ∷ [])
             × (self.old.depth ≡ self.new.depth + 1)) }
     {
         let line = match end {
@@ -129,7 +129,7 @@ impl NestReading {
     /// Goes on by an end if a nest has begun: of the innermost batch that is open, or of the nest if none is.
     fn take_end(&mut self, end: End) -> Result<(), OutOfMemory>
         requires some { IsSome self.old.begun }
-        ensures ok { OnOk result (TakesNestLine self.old self.new (end_line end)) }
+        ensures ok { OnOk result (TakesNestLine self.old self.new (nest_end end)) }
     {
         let Some(begun) = &mut self.begun else {
             return Ok(());

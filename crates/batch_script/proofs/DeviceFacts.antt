@@ -3,7 +3,7 @@ use Rattle.std.proofs.Common.{◌≡◌, ◌≤◌, ◌∙◌, ◌++◌, ℕ, Li
 use Rattle.std.proofs.lemmas.List.{take-append-drop, length-take}
 use Rattle.batch_script.specs.MemoryDevice.{Gave}
 
--- the first bytes that were left were given, which is one call that gave bytes where there are any
+-- the first bytes that were left were given, which is one call that gave bytes if there are any
 pub front_gave : (count : ℕ) (left left_after : List ℕ) → count ≤ length left → left_after ≡ drop count left
     → Gave (min count 1) left left_after
 front_gave count left left_after there rest = record {

@@ -45,7 +45,7 @@ module _ (text rest : List ℕ) (m : ℕ) (small : m < 2 ^ 64) (none : HasNoDigi
         | inr most ↦ most
       ]
 
-  -- where no digit stands, the number's digits have ended
+  -- if no digit comes next, the number's digits have ended
   pub digits_reach : (end : ℕ) → (end < length text → ¬ IsInRange 48 57 (get_or text end 0)) → length (decimal m) ≤ end
   digits_reach end stops =
       elim (cases_lt end (length (decimal m))) [
@@ -63,7 +63,7 @@ module _ (text rest : List ℕ) (m : ℕ) (small : m < 2 ^ 64) (none : HasNoDigi
       let same : length (decimal m) ≡ end = omega (arith, low, high) in
       ap (take end) is ∙ take_at (decimal m) rest end same
 
-  -- no number begins so, where the digits up to here are too large
+  -- no number begins so, if the digits up to here are too large
   pub never_too_large : (i : ℕ) → i < length text → DigitsTo text i → IsInRange 48 57 (get_or text i 0)
       → 2 ^ 64 ≤ digits_value 10 (take i text) * 10 + (get_or text i 0 - 48) → ⊥
   never_too_large i inside each digit large =

@@ -26,7 +26,7 @@ space_within front back = list_any-append (nat_eq 32) front (32 ∷ back) ∙ or
 word_has_none : (word front back : List ℕ) → has_space word ≡ false → word ≡ front ++ 32 ∷ back → ⊥
 word_has_none word front back none parts = let found = ap has_space parts ∙ space_within front back in cc
 
--- where the first spaces stand, the words before them are the same, and so is what follows
+-- the words before the first space are the same, and so is what follows it
 cut_at_space : (word other rest more : List ℕ) → has_space word ≡ false → has_space other ≡ false
     → word ++ 32 ∷ rest ≡ other ++ 32 ∷ more → (word ≡ other) × (rest ≡ more)
 cut_at_space [] [] rest more none nor same = (refl, cc)

@@ -42,7 +42,7 @@ pub value_more : (digits : List ℕ) (i : ℕ) → i < length digits → IsInRan
 value_more digits i within digit =
     digits_value_more 10 digits i within ∙ ap (λ d. digits_value 10 (take i digits) * 10 + d) (digit_value_in (get_or digits i 0) digit)
 
--- where the next digit is none, or the number so far would be too large with it, the digits write no number
+-- if the next digit is none, or the number so far would be too large with it, the digits write no number
 pub no_number : (digits : List ℕ) (i n : ℕ) → i < length digits
     → (IsInRange 48 57 (get_or digits i 0) → 2 ^ 64 ≤ digits_value 10 (take i digits) * 10 + (get_or digits i 0 - 48))
     → n < 2 ^ 64 → digits ≡ decimal n → ⊥

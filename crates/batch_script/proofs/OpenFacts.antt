@@ -8,12 +8,12 @@ use Rattle.batch_script.specs.Machine.{ItemOf}
 use Rattle.batch_script.specs.Grammar.{Line, lines_of, Printing, printed_over, all_lines_over}
 use Rattle.batch_script.specs.Grammar.{IsOpenOver, IsScriptOver, IsFaultLineOver}
 
--- where line comes after the first count lines, the first count + 1 lines are those and line
+-- if line comes after the first count lines, the first count + 1 lines are those and line
 pub take_next : (lines : List Line) (count : ℕ) (line : Line) (later : List Line) → drop count lines ≡ line ∷ later
     → take (count + 1) lines ≡ take count lines ++ line ∷ []
 take_next lines count line later next = take-add count 1 lines ∙ ap (λ rest. take count lines ++ take 1 rest) next
 
--- where line comes after the first count lines, and then later, later is what comes after the first count + 1 lines
+-- if line comes after the first count lines, and then later, later is what comes after the first count + 1 lines
 pub drop_next : (lines : List Line) (count : ℕ) (line : Line) (later : List Line) → drop count lines ≡ line ∷ later
     → drop (count + 1) lines ≡ later
 drop_next lines count line later next = sym (drop-drop 1 count lines) ∙ ap (drop 1) next
@@ -70,7 +70,7 @@ module _ {B : Type 0} (printing : Printing B) where
         },
       )
 
-  -- where all lines begin a script and the input is none, the fault is behind the last line
+  -- if all lines begin a script and the input is none, the fault is behind the last line
   pub IsFaultLine-end : (input : List ℕ) (count : ℕ) → IsOpenOver printing (take count (lines_of input)) → drop count (lines_of input) ≡ []
       → count ≤ length (lines_of input) → IsFaultLineOver printing input (count + 1)
   IsFaultLine-end input count opened next within =

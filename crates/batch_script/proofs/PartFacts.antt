@@ -32,7 +32,7 @@ space_no_digit more some range = omega (arith, range.0)
 
 -- ---- numbers
 
--- where no number stands at the front, there are none
+-- if no number stands at the front, there are none
 pub no_first : (text : List ℕ) → ((n : ℕ) (rest : List ℕ) → n < 2 ^ 64 → HasNoDigitFirst rest → text ≢ decimal n ++ rest)
     → (numbers rest later : List ℕ) → length numbers ≤ 2 → ¬ AreNumbersBefore text numbers rest later
 no_first text never [] rest later few are = absurd (omega (arith, are.some))
@@ -167,7 +167,7 @@ end_stops : (rest later : List ℕ) → EndsLine rest later → Stops rest
 end_stops rest later (inl last) some = absurd (let long = ap length last.0 in omega (arith, some, long))
 end_stops rest later (inr feed) some = inr (ap (λ l. get_or l 0 0) feed)
 
--- where no numbers stand behind the first space, the first line has no parts
+-- if no numbers stand behind the first space, the first line has no parts
 no_parts : (input word text line rest later : List ℕ) → IsCut input word (32 ∷ text) → IsFirstLine input line rest later
     → ((numbers rest later : List ℕ) → length numbers ≤ 2 → ¬ AreNumbersBefore text numbers rest later) → HasNoParts line
 no_parts input word text line rest later cut first never other [] few has =

@@ -36,7 +36,7 @@ module _ {B : Type 0} (printing : Printing B) (parted : HasPartsThroughout print
       AllByRecursion-append HasSomeParts (printed_over printing item) (all_lines_over printing items) (item_has_parts item valid.0)
       (all_have_parts items valid.1)
 
-  -- where a line is no word with up to two numbers no script goes on with it
+  -- if a line is no word with up to two numbers no script goes on with it
   pub stuck_without_parts : (lines : List Line) (line : Line) → HasNoParts line → IsOpenOver printing (lines ++ line ∷ []) → ⊥
   stuck_without_parts lines line never opened =
       let same : lines ++ line ∷ opened.1 ≡ all_lines_over printing opened.0 =

@@ -6,7 +6,7 @@ use Rattle.wic_slab.specs.Order.{max_capacity}
 use Rattle.std.specs.List.{AllByRecursion}
 use Rattle.batch_core.specs.State.{State, empty_state}
 use Rattle.batch_script.specs.Machine.{Bodies, ItemOf, reserve, show, batch, Reply, reserved, reserve_too_large, no_memory}
-use Rattle.batch_script.specs.Machine.{step_over, AsksForMore, IsBeyondOver, ItemStepOver, RunOver, replies_over, IsPlain}
+use Rattle.batch_script.specs.Machine.{FitsOver, step_over, AsksForMore, IsBeyondOver, ItemStepOver, RunOver, replies_over, IsPlain}
 use Rattle.batch_script.specs.Laws.{AsksForNoMore, FitsIfBatch, BatchesFit, RoomMakesPlainOver, HasOnePlainRunOver}
 
 -- what a reservation comes to, by the test of the limit
@@ -47,7 +47,7 @@ module _ {B : Type 0} (bodies : Bodies B) where
   not_beyond room state (reserve number) is least fits beyond = least (subst (λ r. AsksForMore r number) is beyond)
   not_beyond room state show is least fits beyond = beyond
   not_beyond room state (batch body ending) is least fits beyond =
-      beyond (subst (λ r. bodies.fits r state.contents body) (sym is) fits)
+      beyond (subst (λ r. FitsOver bodies r state.contents body) (sym is) fits)
 
   -- the plain reply is never that there was no memory
   plain_answers : (state : State ℕ) (item : ItemOf B) → (step_over bodies state item).0 ≢ no_memory
@@ -91,7 +91,7 @@ module _ {B : Type 0} (bodies : Bodies B) where
       plain_alone (step_over bodies state item).1 items replies (subst (λ s. RunOver bodies s items replies) next run.2) found.1 in
       cc
 
-  -- in a run from a state with this room, where no item asks for more, nothing is refused for memory
+  -- in a run from a state with this room, if no item asks for more, nothing is refused for memory
   within_is_plain : (room : ℕ) (state : State ℕ) (items : List (ItemOf B)) (replies : List Reply) → state.room ≡ room
       → RunOver bodies state items replies → AllByRecursion (AsksForNoMore room) items
       → BatchesFit bodies room state items → IsPlain replies
@@ -107,7 +107,7 @@ module _ {B : Type 0} (bodies : Bodies B) where
             (subst (λ s. RunOver bodies s items replies) next run.2) least.1 fits.1,
       )
 
-  -- a run is the plain one where it begins by reserving a room, no later item asks for more, and each batch fits that room
+  -- a run is the plain one if it begins by reserving a room, no later item asks for more, and each batch fits that room
   pub plain_with_room : RoomMakesPlainOver bodies
   plain_with_room room items replies limit run least fits =
       let after = (step_over bodies empty_state (reserve room)).1 in

@@ -13,7 +13,7 @@ use Rattle.batch_script.specs.Grammar.{Line, command_line, lines_of, all_lines}
 use Rattle.batch_script.specs.Reply.{reply_lines}
 use Rattle.batch_script.proofs.ShownFacts.{shows}
 
--- the lines of the reply to an item on its own, where memory is found
+-- the lines of the reply to an item on its own, if memory is found
 abbrev replied : PlainItem → List Line
 replied item = reply_lines (plain_step empty_state item).0
 

@@ -7,6 +7,7 @@ use Rattle.std.proofs.lemmas.List.{append-nil}
 use Rattle.std.proofs.lemmas.Result.{on_ok_weaker}
 use Rattle.std.proofs.lemmas.List.Concat.{flat_map-append}
 use Rattle.batch_core.specs.State.{empty_state}
+use Rattle.batch_core.specs.Applied.{RefusedFor}
 use Rattle.batch_core.specs.Batch.{Outcome, committed, refused, outcome_of}
 use Rattle.batch_core.specs.Workspace.{Workspace}
 use Rattle.batch_core.specs.declared.command.Cause.{Cause}
@@ -20,7 +21,7 @@ use Rattle.batch_script.specs.Kind.{kind_of_cause, kind_text}
 use Rattle.batch_script.specs.Machine.{Bodies, ItemOf, batch, Reply, answered, no_memory, ItemStepOver, RunOver}
 use Rattle.batch_script.specs.Reply.{record_lines, outcome_lines, reply_lines, cause_text, text_of, text_of_lines}
 use Rattle.batch_script.specs.RunText.{IsTextOfRunOver, AnswersOver, state_of}
-use Rattle.batch_script.specs.Space.{RefusedOver}
+use Rattle.batch_core.proofs.RunFacts.{short_beyond}
 
 -- one more reply
 pub text_of-more : (replies : List Reply) (reply : Reply)
@@ -43,7 +44,8 @@ module _ {B : Type 0} (bodies : Bodies B) (old new : Workspace ℕ) (body : B) (
 
   -- a batch was refused for a cause other than out of memory
   pub refused_step : (cause : Cause) (at : ℕ) (why : BatchKind) → kind_of_cause cause ≡ Some why
-      → new.contents ≡ old.contents → RefusedOver bodies old body ending cause at
+      → new.contents ≡ old.contents
+      → RefusedFor old.room (bodies.places body) old.contents (bodies.course old.contents body) ending cause at
       → ItemStepOver bodies (state_of old) (batch body ending) (answered (refused (record { cause = cause; at = at }))) (state_of new)
   refused_step (Oom size) at why is same came = let none : None ≡ Some why = is in cc
   refused_step Empty at why is same came = batch_step _ (rw same came)
@@ -54,8 +56,13 @@ module _ {B : Type 0} (bodies : Bodies B) (old new : Workspace ℕ) (body : B) (
 
   -- a batch was refused with a cause that has no kind: memory ran out, and it doesn't fit the room
   pub short_step : (cause : Cause) (at : ℕ) → kind_of_cause cause ≡ None → new.contents ≡ old.contents
-      → RefusedOver bodies old body ending cause at → ItemStepOver bodies (state_of old) (batch body ending) no_memory (state_of new)
-  short_step (Oom size) at is same short = inr (short, refl, λ t. record { contents = same t; room = same_room t })
+      → RefusedFor old.room (bodies.places body) old.contents (bodies.course old.contents body) ending cause at
+      → ItemStepOver bodies (state_of old) (batch body ending) no_memory (state_of new)
+  short_step (Oom size) at is same short = inr (
+    short_beyond old.room (bodies.places body) (bodies.course old.contents body).stands at short,
+    refl,
+    λ t. record { contents = same t; room = same_room t },
+  )
   short_step Empty at is same short = let some : Some EmptyKind ≡ None = is in cc
   short_step Position at is same short = let some : Some PositionKind ≡ None = is in cc
   short_step Vacant at is same short = let some : Some VacantKind ≡ None = is in cc
@@ -110,7 +117,7 @@ module _ {B : Type 0} (bodies : Bodies B) where
     counted = omega (arith, so_far.counted, ap length parts);
   }
 
-  -- and where no item is left the text is that of a run of all items
+  -- and if no item is left the text is that of a run of all items
   pub text_of_run : (all : List (ItemOf B)) (workspace : Workspace ℕ) (text : List ℕ) (left : List (ItemOf B)) (count : ℕ)
       → IsUnderWay all workspace text left count → count ≡ 0 → IsTextOfRunOver bodies all text
   text_of_run all workspace text [] count so_far none = (so_far.replies, rw append-nil at (so_far.goes_on [] tt), so_far.written)

@@ -51,7 +51,7 @@ reserve_tells true state number rest = refl
 reserve_tells false state number rest = refl
 
 module _ {B : Type 0} (bodies : Bodies B) where
-  -- where an item may be refused for memory, the text of its plain reply tells that it wasn't
+  -- if an item may be refused for memory, the text of its plain reply tells that it wasn't
   plain_tells : (state : State ℕ) (item : ItemOf B) (rest : List ℕ) → IsBeyondOver bodies state item
       → tells_no_memory (reply_text (step_over bodies state item).0 ++ rest) ≡ false
   plain_tells state (reserve number) rest beyond = reserve_tells (nat_le number max_capacity) state number rest

@@ -28,13 +28,13 @@ command_from word numbers =
     else if bytes_eq word (codes "remove") then Remove (get_or numbers 0 0)
     else Truncate (get_or numbers 0 0)
 
--- whether a word ends a batch
-abbrev is_end : List ℕ → Bool
-is_end word = bytes_eq word (codes "commit") || bytes_eq word (codes "abort")
+-- whether a word begins or ends a batch
+abbrev pub is_bound : List ℕ → Bool
+is_bound word = bytes_eq word (codes "begin") || (bytes_eq word (codes "commit") || bytes_eq word (codes "abort"))
 
--- a command is made again of its word and its numbers, and its word ends no batch
-command_known : (command : Command ℕ) → (command_from (word_of command) (numbers_of command) ≡ command)
-    × (is_end (word_of command) ≡ false)
+-- a command is made again of its word and its numbers, and its word begins and ends no batch
+pub command_known : (command : Command ℕ) → (command_from (word_of command) (numbers_of command) ≡ command)
+    × (is_bound (word_of command) ≡ false)
 command_known (Push value) = (refl, refl)
 command_known Pop = (refl, refl)
 command_known (Set at value) = (refl, refl)
@@ -51,7 +51,7 @@ pub same_command : (command other : Command ℕ) → IsValidCommand command → 
 same_command = known_by_line word_of numbers_of one_word command_from (λ command. (command_known command).0)
 
 -- the line that ends a batch has no space, and is a word that ends a batch
-pub end_word : (ending : End) → (has_space (end_line ending) ≡ false) × (is_end (end_line ending) ≡ true)
+pub end_word : (ending : End) → (has_space (end_line ending) ≡ false) × (is_bound (end_line ending) ≡ true)
 end_word Commit = (refl, refl)
 end_word Abort = (refl, refl)
 
@@ -62,13 +62,13 @@ command_is_no_end command ending valid same =
     (end_word ending).0 valid tt same in
     let not_end = (command_known command).1 in
     let ends = (end_word ending).1 in
-    let words = ap is_end parts.0 in
+    let words = ap is_bound parts.0 in
     cc
 
 itself : (number : ℕ) → nat_eq number number ≡ true
 itself number = grind (arith, nat_tests)
 
--- the first line, where there is one
+-- the first line, if there is one
 abbrev pub first_line : List Line → Line
 first_line lines = get_or lines 0 []
 

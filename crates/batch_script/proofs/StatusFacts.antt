@@ -155,7 +155,7 @@ two_left first result source sink (inr (inr (inl is))) read write quiet silent =
 two_left first result source sink (inr (inr (inr (inl is)))) read write quiet silent = absurd (silent (write is))
 two_left first result source sink (inr (inr (inr (inr none)))) read write quiet silent = absurd none
 
--- the same where nothing is read
+-- the same if nothing is read
 two_left_unread : (first result : Status) (sink : Use) → IsAmong (first ∷ Oom ∷ WriteFault ∷ []) result
     → (result ≡ WriteFault → HasFaults sink) → ¬ HasFaults sink → (result ≡ first) ⊎ (result ≡ Oom)
 two_left_unread first result sink (inl is) write silent = inl is

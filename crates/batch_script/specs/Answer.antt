@@ -1,7 +1,8 @@
 -- What words ask for, what the program has to write, and how reading ends.
-use Rattle.std.specs.Prelude.{◌≡◌, ◌≢◌, ℕ, ◌<◌, ◌≤◌, List, [], length, codes, Some}
+use Rattle.std.specs.Prelude.{◌≡◌, ◌≢◌, ℕ, ◌<◌, ◌≤◌, List, [], length, Some}
 use Rattle.wic_vec.specs.TryString.{TryString}
 use Rattle.batch_script.specs.Device.{Use, HasFaults, Keeps, OfTold}
+use Rattle.batch_script.specs.Reply.{oom_line, read_fault_line, too_long_line}
 use Rattle.batch_script.specs.Status.{Meaning, line_text}
 use Rattle.batch_script.specs.declared.program.Answer.{Answer}
 use Rattle.batch_script.specs.declared.program.Answer.TheVariants as answer
@@ -33,9 +34,9 @@ status_of answer.Usage = status.Usage
 abbrev pub text_of_answer : List ℕ → Answer → List ℕ
 text_of_answer usage (answer.Done text) = text.bytes
 text_of_answer usage (answer.Syntax text) = text.bytes
-text_of_answer usage answer.Oom = line_text (codes "error: out of memory")
-text_of_answer usage answer.ReadFault = line_text (codes "error: read fault")
-text_of_answer usage answer.TooLong = line_text (codes "error: input too long")
+text_of_answer usage answer.Oom = line_text oom_line
+text_of_answer usage answer.ReadFault = line_text read_fault_line
+text_of_answer usage answer.TooLong = line_text too_long_line
 text_of_answer usage answer.Usage = line_text usage
 
 -- all bytes that were left were read, within the limit, and no call failed

@@ -7,7 +7,7 @@ use Rattle.batch_script.specs.declared.device.Failed.{Failed}
 abbrev pub Rose : ℕ → ℕ → Type 0
 Rose before now = min (before + 1) (2 ^ 64 - 1) ≤ now
 
--- a call fails only where the count of faults rose, and an answer leaves the count as it was
+-- a call fails only if the count of faults rose, and an answer leaves the count as it was
 pub record HasCause {T : Type 0} (before now : ℕ) (result : Result T Failed) : Type 0 where
   pub later : before ≤ now
   pub failed : OnErr result (Rose before now)

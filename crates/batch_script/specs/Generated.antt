@@ -37,12 +37,12 @@ abbrev pub drawn_command : ℕ → Command ℕ
 drawn_command number = command_of_draws (draw 0 number % 16) (draw 1 number) (draw 2 number)
 
 -- the end of a batch: one draw in four aborts it
-abbrev pub end_of : ℕ → End
-end_of drawn = if nat_lt (drawn % 4) 1 then Abort else Commit
+abbrev pub drawn_end : ℕ → End
+drawn_end drawn = if nat_lt (drawn % 4) 1 then Abort else Commit
 
 -- the batch of the 25 draws from this number on: eight commands of three draws each, and its end
 abbrev pub batch_of : ℕ → PlainItem
-batch_of number = batch (map (λ k. drawn_command (number_after (3 * k) number)) (range_with_len 0 8)) (end_of (draw 24 number))
+batch_of number = batch (map (λ k. drawn_command (number_after (3 * k) number)) (range_with_len 0 8)) (drawn_end (draw 24 number))
 
 -- the script of a seed and a number of batches: a room, and then the batches, of 25 draws each
 abbrev pub generated : ℕ → ℕ → List PlainItem

@@ -117,7 +117,7 @@ module _ {B : Type 0} (printing : Printing B) where
       (items : List (ItemOf B)) × (rest : List Line) × AllByRecursion IsValidItemOver items × (lines ++ rest ≡ all_lines_over items)
 
   -- The line of the fault of an input that is no script, counted from 1: with the lines before it a script may begin,
-  -- and with it none. It is one past the last line where all lines together begin a script.
+  -- and with it none. It is one past the last line if all lines together begin a script.
   pub record IsFaultLineOver (input : List ℕ) (line : ℕ) : Type 0 where
     pub counted : 1 ≤ line
     pub before : (count : ℕ) → count < line → IsOpenOver (take count (lines_of input))

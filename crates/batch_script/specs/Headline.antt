@@ -1,11 +1,11 @@
 -- What the whole program promises: for every script the text of one run, or out of memory.
-use Rattle.std.specs.Prelude.{◌≡◌, ℕ, ◌≤◌, List, [], ◌∷◌, ◌++◌, length, codes, Option, Some}
+use Rattle.std.specs.Prelude.{◌≡◌, ℕ, ◌≤◌, List, [], ◌∷◌, ◌++◌, length, Option, Some}
 use Rattle.wic_vec.specs.TryString.{TryString}
 use Rattle.batch_core.specs.State.{empty_state}
 use Rattle.batch_script.specs.Device.{Use, HasFaults}
 use Rattle.batch_script.specs.Grammar.{Printing, batch_printing, IsScriptOfOver}
 use Rattle.batch_script.specs.Machine.{Bodies, ItemOf, PlainItem, Reply, RunOver, batches}
-use Rattle.batch_script.specs.Reply.{text_of, text_of_lines}
+use Rattle.batch_script.specs.Reply.{oom_line, text_of, text_of_lines}
 use Rattle.batch_script.specs.declared.program.Status.{Status}
 use Rattle.batch_script.specs.declared.program.Status.TheVariants.{Done, Oom}
 use Rattle.batch_script.specs.declared.program.TheConstants.{INPUT_LIMIT}
@@ -53,4 +53,4 @@ pub record WantsMemory (status : Status) (written : Option (List ℕ)) (held : L
   -- the status is 2
   pub wanted : status ≡ Oom
   -- the sink holds what it held, followed by the line that says so
-  pub gained : written ≡ Some (held ++ text_of_lines (codes "error: out of memory" ∷ []))
+  pub gained : written ≡ Some (held ++ text_of_lines (oom_line ∷ []))

@@ -4,7 +4,7 @@ use Rattle.std.specs.List.{AllByRecursion}
 use Rattle.wic_slab.specs.Order.{max_capacity}
 use Rattle.batch_core.specs.State.{State, empty_state}
 use Rattle.batch_script.specs.Machine.{ItemOf, PlainItem, reserve, show, batch, Bodies, batches, Reply, reserved, AsksForMore, IsPlain}
-use Rattle.batch_script.specs.Machine.{step_over, replies_over, RunOver}
+use Rattle.batch_script.specs.Machine.{FitsOver, step_over, replies_over, RunOver}
 use Rattle.batch_script.specs.Grammar.{Printing, batch_printing, IsValidItemOver, all_lines_over}
 use Rattle.batch_script.specs.Reply.{text_of}
 
@@ -25,11 +25,11 @@ module _ {B : Type 0} (bodies : Bodies B) where
   TextTellsRunOver = (items : List (ItemOf B)) (replies others : List Reply) → RunOver bodies empty_state items replies
       → RunOver bodies empty_state items others → text_of replies ≡ text_of others → replies ≡ others
 
-  -- the item, where it is a batch, fits the room in this state
+  -- the item, if it is a batch, fits the room in this state
   abbrev pub FitsIfBatch : ℕ → State ℕ → ItemOf B → Type 0
   FitsIfBatch room state (reserve number) = ⊤
   FitsIfBatch room state show = ⊤
-  FitsIfBatch room state (batch body ending) = bodies.fits room state.contents body
+  FitsIfBatch room state (batch body ending) = FitsOver bodies room state.contents body
 
   -- every batch fits the room where it stands in the plain run from this state
   abbrev pub BatchesFit : ℕ → State ℕ → List (ItemOf B) → Type 0
@@ -41,7 +41,7 @@ module _ {B : Type 0} (bodies : Bodies B) where
     pub same : replies ≡ replies_over bodies empty_state items
     pub plain : IsPlain replies
 
-  -- a run is the plain one where its first item reserves a room within the limit, that item is answered so, no later item asks
+  -- a run is the plain one if its first item reserves a room within the limit, that item is answered so, no later item asks
   -- for more, and every batch fits that room where it stands
   abbrev pub RoomMakesPlainOver : Type 0
   RoomMakesPlainOver = (room : ℕ) (items : List (ItemOf B)) (replies : List Reply) → room ≤ max_capacity
@@ -66,7 +66,7 @@ LinesTellItems = LinesTellItemsOver batch_printing
 abbrev pub TextTellsRun : Type 0
 TextTellsRun = TextTellsRunOver batches
 
--- a run is the plain one where its first item reserves all the room that its items need, and is answered so
+-- a run is the plain one if its first item reserves all the room that its items need, and is answered so
 abbrev pub RoomMakesPlain : Type 0
 RoomMakesPlain = RoomMakesPlainOver batches
 

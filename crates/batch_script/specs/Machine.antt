@@ -1,5 +1,5 @@
 -- The plain machine over the items of a script.
-use Rattle.std.specs.Prelude.{⊤, ◌≡◌, ◌≢◌, ◌⊎◌, ℕ, ◌<◌, ◌≤◌, max, nat_le, if◌then◌else◌, List, [], ◌∷◌}
+use Rattle.std.specs.Prelude.{⊤, ◌≡◌, ◌≢◌, ◌⊎◌, ℕ, ◌<◌, ◌≤◌, max, nat_le, if◌then◌else◌, List, [], ◌∷◌, length}
 use Rattle.std.specs.List.{AllByRecursion}
 use Rattle.std.specs.Ordering.{nat_cmp}
 use Rattle.std.specs.FinMap.{FinMap}
@@ -12,10 +12,10 @@ use Rattle.batch_core.specs.Room.{Fits}
 use Rattle.batch_core.specs.declared.command.Command.{Command}
 use Rattle.batch_core.specs.declared.command.End.{End}
 
--- what the bodies of items come to: the course of each from these contents, and when it fits a room
+-- what the bodies of items come to: the course of each from these contents, and how many places it needs to begin
 pub record Bodies (B : Type 0) : Type 1 where
   pub course : Contents ℕ → B → Course ℕ
-  pub fits : ℕ → Contents ℕ → B → Type 0
+  pub places : B → ℕ
 
 -- one item of a script: a batch has its body and its end
 pub data ItemOf (B : Type 0) : Type 0 where
@@ -31,7 +31,7 @@ pub data Reply : Type 0 where
   answered : Outcome ℕ → Reply
   no_memory : Reply
 
--- what a reservation comes to, where it is within the limit and where it isn't; the room is never lowered
+-- what a reservation comes to, within the limit and beyond it; the room is never lowered
 abbrev pub reserve_step : State ℕ → ℕ → Reply × State ℕ
 reserve_step state number =
     if nat_le number max_capacity then (reserved, record state { room = max state.room number }) else (reserve_too_large, state)
@@ -49,7 +49,11 @@ abbrev pub IsPlain : List Reply → Type 0
 IsPlain = AllByRecursion (λ reply. reply ≢ no_memory)
 
 module _ {B : Type 0} (bodies : Bodies B) where
-  -- what an item comes to where memory is found: the reply and the next state
+  -- the body fits the room where it stands in these contents
+  abbrev pub FitsOver : ℕ → Contents ℕ → B → Type 0
+  FitsOver room contents body = Fits room (bodies.places body) (bodies.course contents body).stands
+
+  -- what an item comes to if memory is found: the reply and the next state
   abbrev pub step_over : State ℕ → ItemOf B → Reply × State ℕ
   step_over state (reserve number) = reserve_step state number
   step_over state show = (shown_of state.contents, state)
@@ -61,10 +65,10 @@ module _ {B : Type 0} (bodies : Bodies B) where
   abbrev pub IsBeyondOver : State ℕ → ItemOf B → Type 0
   IsBeyondOver state (reserve number) = AsksForMore state.room number
   IsBeyondOver state show = ⊥
-  IsBeyondOver state (batch body ending) = ¬ bodies.fits state.room state.contents body
+  IsBeyondOver state (batch body ending) = ¬ FitsOver state.room state.contents body
 
   -- In this state the machine may give this reply to the item, and go on to the next state: what the item comes to, or,
-  -- where it is beyond the room, a refusal for memory that leaves the old state.
+  -- if it is beyond the room, a refusal for memory that leaves the old state.
   abbrev pub ItemStepOver : State ℕ → ItemOf B → Reply → State ℕ → Type 0
   ItemStepOver state item reply next =
       ((reply, next) ≡ step_over state item) ⊎ (IsBeyondOver state item × (reply ≡ no_memory) × (next ≡ state))
@@ -91,13 +95,13 @@ module _ {B : Type 0} (bodies : Bodies B) where
 
 -- a body is the commands of a batch, in order
 abbrev pub batches : Bodies (List (Command ℕ))
-batches = record { course = batch_course; fits = λ room contents commands. Fits room (batch_course contents commands).stands }
+batches = record { course = batch_course; places = λ commands. length commands }
 
 -- one item of a script of batches: a batch has its commands and its end
 abbrev pub PlainItem : Type 0
 PlainItem = ItemOf (List (Command ℕ))
 
--- what an item comes to where memory is found
+-- what an item comes to if memory is found
 abbrev pub plain_step : State ℕ → PlainItem → Reply × State ℕ
 plain_step = step_over batches
 

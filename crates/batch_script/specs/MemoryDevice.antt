@@ -37,7 +37,7 @@ pub record SourceReaches (calls : ℕ) (before after : MemSource) : Type 0 where
   -- pieces and failing calls stay
   pub piece : after.piece ≡ before.piece
   pub failing : after.failing ≡ before.failing
-  -- where no call is listed as failing no fault is counted
+  -- if no call is listed as failing no fault is counted
   pub quiet : before.failing ≡ [] → after.faults ≡ before.faults
 
 -- What calls make of a sink in memory, of which so many took bytes.
@@ -50,7 +50,7 @@ pub record SinkReaches (calls : ℕ) (before after : MemSink) : Type 0 where
   pub room : after.room ≡ before.room
   pub piece : after.piece ≡ before.piece
   pub failing : after.failing ≡ before.failing
-  -- where no call is listed as failing and the room is not used up no fault is counted
+  -- if no call is listed as failing and the room is not used up no fault is counted
   pub quiet : before.failing ≡ [] → length after.bytes < after.room → after.faults ≡ before.faults
 
 -- Calls of a sink that counts alone, of which so many took bytes, at least one each; the number stands still at the last one.

@@ -64,23 +64,23 @@ first_numbers (batch body ending) = []
 -- ---- what takes lines, whatever it makes of them
 
 module _ {R : Type 0} where
-  -- where it had taken lines so, it takes a line of this word and these numbers behind them
+  -- if it had taken lines so, it takes a line of this word and these numbers behind them
   abbrev pub TakesLineOver : (R → List Line → Type 0) → (R → List Line → Type 0) → R → R → List ℕ → List ℕ → Type 0
   TakesLineOver Had Has old new word numbers =
       (lines : List Line) (line : Line) → HasParts line word numbers → Had old lines → Has new (lines ++ line ∷ [])
 
-  -- the input has a first line, and where it had taken lines, it takes this one behind them and leaves the others
+  -- the input has a first line, and if it had taken lines, it takes this one behind them and leaves the others
   abbrev pub TakesFirstLine : (R → List Line → Type 0) → R → R → List ℕ → List ℕ → Type 0
   TakesFirstLine Has old new input later =
       (line : Line) × (lines_of input ≡ line ∷ lines_of later) × ((lines : List Line) → Has old lines → Has new (lines ++ line ∷ []))
 
 module _ {B R : Type 0} (printing : Printing B) (Had : R → List Line → Type 0) (old : R) where
-  -- where it had taken lines so, no line of this word and these numbers goes on behind them
+  -- if it had taken lines so, no line of this word and these numbers goes on behind them
   abbrev pub RefusesLineOver : List ℕ → List ℕ → Type 0
   RefusesLineOver word numbers =
       (lines : List Line) (line : Line) → HasParts line word numbers → Had old lines → ¬ IsOpenOver printing (lines ++ line ∷ [])
 
-  -- the input has a first line, and where it had taken lines, no script goes on with this one behind them
+  -- the input has a first line, and if it had taken lines, no script goes on with this one behind them
   abbrev pub RefusesFirstLine : List ℕ → Type 0
   RefusesFirstLine input =
       (line : Line) × (later : List Line) × (lines_of input ≡ line ∷ later)
@@ -150,10 +150,10 @@ IsOutside reading lines = (reading.begun ≡ None) × AreRead (plain_items readi
 abbrev pub IsInside : Reading → List Line → Type 0
 IsInside reading lines = IsSome (begun_in reading) × HasRead reading lines
 
--- where the reading had taken lines so, it takes a line of this word and these numbers behind them
+-- if the reading had taken lines so, it takes a line of this word and these numbers behind them
 abbrev pub TakesLine : (Reading → List Line → Type 0) → Reading → Reading → List ℕ → List ℕ → Type 0
 TakesLine Had = TakesLineOver Had HasRead
 
--- where it had taken lines so, no line of this word and these numbers goes on behind them
+-- if it had taken lines so, no line of this word and these numbers goes on behind them
 abbrev pub RefusesLine : (Reading → List Line → Type 0) → Reading → List ℕ → List ℕ → Type 0
 RefusesLine = RefusesLineOver batch_printing

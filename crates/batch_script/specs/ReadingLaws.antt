@@ -13,7 +13,7 @@ use Rattle.batch_script.specs.Grammar.{Line, IsOpen, IsValidCommand, batch_print
 use Rattle.batch_script.specs.Grammar.{Printing, IsOpenOver, IsValidItemOver, all_lines_over, printed_over}
 use Rattle.batch_script.specs.Reading.{AreReadOver, CanEnd, HasPartsThroughout, HasRead, HasSomeParts, begun_in, has_space, plain_items}
 
--- P holds of each element of xs ++ ys where it holds of each of xs and each of ys
+-- P holds of each element of xs ++ ys if it holds of each of xs and each of ys
 pub AllByRecursion-append : {X : Type 0} (P : X → Type 0) (xs ys : List X) → AllByRecursion P xs → AllByRecursion P ys
     → AllByRecursion P (xs ++ ys)
 AllByRecursion-append P [] ys h k = k

@@ -32,6 +32,18 @@ record_lines (Removed number false) = codes "absent" ∷ []
 record_lines (Cut value) = []
 record_lines (Truncated removed) = (codes "cut " ++ decimal removed) ∷ []
 
+-- what the program writes if memory runs out
+abbrev pub oom_line : Line
+oom_line = codes "error: out of memory"
+
+-- what it writes if a read fails
+abbrev pub read_fault_line : Line
+read_fault_line = codes "error: read fault"
+
+-- what it writes if the input is too long
+abbrev pub too_long_line : Line
+too_long_line = codes "error: input too long"
+
 -- what there was no memory for, as a refusal says it
 abbrev pub no_memory_text : List ℕ
 no_memory_text = codes "out of memory"

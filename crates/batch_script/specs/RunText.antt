@@ -1,10 +1,10 @@
 -- The text that a run of a script writes.
-use Rattle.std.specs.Prelude.{◌≡◌, ◌≤◌, ℕ, List, [], ◌∷◌, ◌++◌, length, codes}
+use Rattle.std.specs.Prelude.{◌≡◌, ◌≤◌, ℕ, List, [], ◌∷◌, ◌++◌, length}
 use Rattle.batch_core.specs.State.{State, empty_state}
 use Rattle.batch_core.specs.Workspace.{Workspace}
 use Rattle.batch_script.specs.Grammar.{Printing, batch_printing, IsScriptOfOver}
 use Rattle.batch_script.specs.Machine.{ItemOf, Bodies, batches, Reply, ItemStepOver, RunOver}
-use Rattle.batch_script.specs.Reply.{reply_lines, text_of, text_of_lines}
+use Rattle.batch_script.specs.Reply.{oom_line, reply_lines, text_of, text_of_lines}
 
 -- the text is that of the replies of one run of the items from empty
 abbrev pub IsTextOfRunOver : {B : Type 0} → Bodies B → List (ItemOf B) → List ℕ → Type 0
@@ -23,7 +23,7 @@ IsRunText = IsRunTextOver batches batch_printing
 -- the room is enough for the text of each run of the script, and for the line of out of memory
 pub record HoldsReplies (room : ℕ) (input : List ℕ) : Type 0 where
   pub holds_runs : (text : List ℕ) → IsRunText input text → length text ≤ room
-  pub holds_refusal : length (text_of_lines (codes "error: out of memory" ∷ [])) ≤ room
+  pub holds_refusal : length (text_of_lines (oom_line ∷ [])) ≤ room
 
 -- the state of the plain machine that a workspace stands for
 abbrev pub state_of : Workspace ℕ → State ℕ

@@ -1,15 +1,11 @@
 -- What bodies and items are to a space, and what a space makes of a body.
-use Rattle.std.specs.Prelude.{⊤, ◌≡◌, ℕ, List}
+use Rattle.std.specs.Prelude.{⊤, ℕ, List}
 use Rattle.std.specs.declared.result.Result.{Result}
-use Rattle.std.specs.declared.result.Result.TheVariants.{Ok, Err}
-use Rattle.batch_core.specs.Batch.{committed, aborted, refused, outcome_of}
+use Rattle.batch_core.specs.Applied.{IsApplied}
 use Rattle.batch_core.specs.Workspace.{Workspace}
 use Rattle.batch_core.specs.declared.answer.Done.{Done}
-use Rattle.batch_core.specs.declared.answer.Done.TheVariants.{Committed, Aborted}
 use Rattle.batch_core.specs.declared.answer.Refusal.{Refusal}
 use Rattle.batch_core.specs.declared.command.Batch.{Batch}
-use Rattle.batch_core.specs.declared.command.Cause.{Cause}
-use Rattle.batch_core.specs.declared.command.Cause.TheVariants.{Oom}
 use Rattle.batch_core.specs.declared.command.Command.{Command}
 use Rattle.batch_core.specs.declared.command.End.{End}
 use Rattle.batch_script.specs.declared.item.Item.{Item}
@@ -46,18 +42,6 @@ space_of_batches = record {
 }
 
 module _ {B : Type 0} (bodies : Bodies B) where
-  -- a body is refused with this cause at this command: that is its outcome, or memory ran out and it doesn't fit the room
-  abbrev pub RefusedOver : Workspace ℕ → B → End → Cause → ℕ → Type 0
-  RefusedOver old body ending (Oom size) at = ¬ bodies.fits old.room old.contents body
-  RefusedOver old body ending cause at =
-      outcome_of old.contents (bodies.course old.contents body) ending
-      ≡ (refused (record { cause = cause; at = at }), old.contents)
-
   -- a body had this result, and left the workspace so
   abbrev pub AppliedOver : Workspace ℕ → B → End → Result Done Refusal → Workspace ℕ → Type 0
-  AppliedOver old body ending (Ok Committed) new =
-      outcome_of old.contents (bodies.course old.contents body) ending ≡ (committed new.records, new.contents)
-  AppliedOver old body ending (Ok Aborted) new =
-      outcome_of old.contents (bodies.course old.contents body) ending ≡ (aborted, new.contents)
-  AppliedOver old body ending (Err refusal) new =
-      (new.contents ≡ old.contents) × RefusedOver old body ending refusal.cause refusal.at
+  AppliedOver old body = IsApplied old (bodies.places body) (bodies.course old.contents body)

@@ -3,7 +3,7 @@ use Rattle.std.specs.Prelude.{◌≡◌, ◌≢◌, ◌⊎◌, ℕ, ◌<◌, ◌
 use Rattle.std.specs.Fmt.{decimal}
 use Rattle.wic_vec.specs.TryString.{TryString}
 use Rattle.batch_script.specs.Device.{Use, HasFaults, Keeps, OfTold}
-use Rattle.batch_script.specs.Reply.{text_of_lines}
+use Rattle.batch_script.specs.Reply.{oom_line, read_fault_line, text_of_lines, too_long_line}
 use Rattle.batch_script.specs.declared.program.Status.{Status}
 use Rattle.batch_script.specs.declared.program.Status.TheVariants.{Done, Syntax, Oom, ReadFault, WriteFault, TooLong, Usage}
 use Rattle.batch_script.specs.declared.program.TheConstants.{INPUT_LIMIT}
@@ -66,13 +66,13 @@ CallsFor meaning words source Done text =
     Keeps source × (RepliesTo meaning words source text ⊎ meaning.asks_for_text words text)
 CallsFor meaning words source Syntax text = Keeps source × NamesFault meaning words source text
 CallsFor meaning words source Oom text =
-    Keeps source × (¬ meaning.asks_for_usage words) × (text ≡ line_text (codes "error: out of memory"))
+    Keeps source × (¬ meaning.asks_for_usage words) × (text ≡ line_text oom_line)
 CallsFor meaning words source ReadFault text =
-    HasFaults source × (words ≡ []) × (text ≡ line_text (codes "error: read fault"))
+    HasFaults source × (words ≡ []) × (text ≡ line_text read_fault_line)
 CallsFor meaning words source WriteFault text = ⊥
 CallsFor meaning words source TooLong text =
     Keeps source × (words ≡ []) × OfTold source (λ input. INPUT_LIMIT < length input)
-    × (text ≡ line_text (codes "error: input too long"))
+    × (text ≡ line_text too_long_line)
 CallsFor meaning words source Usage text = Keeps source × meaning.asks_for_usage words × (text ≡ line_text meaning.usage)
 
 -- a text was written whole, by at most as many writes as it has bytes

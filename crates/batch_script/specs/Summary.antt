@@ -50,7 +50,7 @@ summary_lines items =
 abbrev pub summary_text : List PlainItem → List ℕ
 summary_text items = text_of_lines (summary_lines items)
 
--- the counts went up by one where the reply is such a one
+-- the counts went up by one if the reply is such a one
 pub record CountsReply (reply : Reply) (before after : Counts) : Type 0 where
   pub committed : after.committed ≡ before.committed + cond (is_committed reply) 1 0
   pub aborted : after.aborted ≡ before.aborted + cond (is_aborted reply) 1 0

@@ -1,6 +1,6 @@
 //! Makes scripts from two numbers.
 ghost use Rattle.std.specs.Prelude.{◌≡◌, ◌/◌, ◌^◌, ◌≤◌, IfOk, OnOk};
-ghost use Rattle.batch_script.specs.Generated.{drawn_command, draw, end_of, batch_of, next_number, number_after, generated};
+ghost use Rattle.batch_script.specs.Generated.{drawn_command, draw, drawn_end, batch_of, next_number, number_after, generated};
 ghost use Rattle.batch_script.specs.declared.words.TheConstants.{MOST_BATCHES};
 ghost use Rattle.batch_script.specs.Reading.{plain_item, plain_items};
 
@@ -54,7 +54,7 @@ impl Generator {
 
     /// The end of a batch, by the next one.
     fn end(&mut self) -> End
-        ensures end { result ≡ end_of (draw 0 self.old.number) }
+        ensures end { result ≡ drawn_end (draw 0 self.old.number) }
         ensures next { self.new.number ≡ number_after 1 self.old.number }
     {
         match self.draw() % 4 {

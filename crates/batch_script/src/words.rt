@@ -22,7 +22,7 @@ pub(crate) fn wish_of(words: &TryVec<TryString>) -> Wish
 {
     match words.as_slice() {
         [] => Wish::Script,
-        [word, seed, count] => match numbers_of(bytes_of(word), bytes_of(seed), bytes_of(count)) {
+        [word, seed, count] => match seed_and_count(bytes_of(word), bytes_of(seed), bytes_of(count)) {
             Some((seed, count)) => Wish::Generated(seed, count),
             None => Wish::Usage,
         },
@@ -31,7 +31,7 @@ pub(crate) fn wish_of(words: &TryVec<TryString>) -> Wish
 }
 
 /// The numbers of the run that three words ask for, if they ask for one.
-fn numbers_of(word: &[u8], seed: &[u8], count: &[u8]) -> Option<(u64, u64)>
+fn seed_and_count(word: &[u8], seed: &[u8], count: &[u8]) -> Option<(u64, u64)>
     ensures some { IfSome result (λ numbers. AreForRun
         (word.now ∷ seed.now ∷ count.now ∷ []) numbers.0 numbers.1) }
     ensures none { IfNone result ((from many : ℕ)

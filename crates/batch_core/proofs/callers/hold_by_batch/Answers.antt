@@ -1,4 +1,4 @@
-use Rattle.std.proofs.Common.{◌≡◌, ◌<◌, Option, None, Some, refl, sym, subst, arith}
+use Rattle.std.proofs.Common.{◌≡◌, Option, None, Some, length, refl, sym, subst, arith}
 use Rattle.std.specs.Prelude.{IfNone}
 use Rattle.batch_core.specs.Course.{batch_course}
 use Rattle.batch_core.specs.Room.{Fits}
@@ -12,7 +12,8 @@ if_none (Some x) p = record {}
 pub returns : goal.returns
 returns g c =
     let old = c.args.workspace.now.contents in record {
-      fits = c.apply.ensures.never_oom_within (subst (λ items. Fits c.args.workspace.now.room (batch_course old items).stands)
+      fits = c.apply.ensures.never_oom_within
+          (subst (λ items. Fits c.args.workspace.now.room (length items) (batch_course old items).stands)
           (sym c.requires.one.1) (record {
             few = omega arith;
             within = if_none _ (λ admitted.

@@ -1,6 +1,7 @@
 use Rattle.std.proofs.Common.{◌≡◌, length, sym, ap, subst, ◌∙◌, arith}
 use Rattle.std.specs.Vec.Iter.{into_iter_items}
-use Rattle.batch_core.specs.Many.{course_from, contents_after_one, contents_after_all, AllFit}
+use Rattle.batch_core.specs.Course.{course_of, places_of}
+use Rattle.batch_core.specs.Many.{contents_after_one, contents_after_all, AllFit}
 use Rattle.batch_core.proofs.RunFacts.{applied_contents}
 use Rattle.batch_core.proofs.callers.reserve_and_run.Goals as goal
 
@@ -14,10 +15,11 @@ loop-batch-preserved g c =
     let steps = c.in-Some.ensures.steps in
     let short = ap length steps.0 in
     let fit = subst (AllFit c.args.n old.contents) steps.0 inv.fit in
-    let course = course_from old.contents batch in
-    let fits = c.law_larger_room.ensures c.args.n old.room course.stands inv.room fit.0 in
+    let course = course_of old.contents batch in
+    let places = places_of batch in
+    let fits = c.law_larger_room.ensures c.args.n old.room places course.stands inv.room fit.0 in
     let comes : new.contents ≡ contents_after_one old.contents batch =
-    applied_contents old new course batch.end c.apply.result c.apply.ensures.applied (c.apply.ensures.never_oom_within fits) in
+    applied_contents old new places course batch.end c.apply.result c.apply.ensures.applied (c.apply.ensures.never_oom_within fits) in
     record {
       room = omega (arith, inv.room, c.apply.ensures.room);
       fit = subst (λ k. AllFit c.args.n k rest) (sym comes) fit.1;

@@ -32,7 +32,7 @@ returns-in-Ok-Aborted g c =
     record {
       answered =
           answered_by meaning.bodies c.push_aborted.result (batch body ending) old new c.args.text.now.bytes c.push_aborted.new.text.bytes
-          (answered aborted) (batch_step meaning.bodies old new body ending c.apply.ensures.room aborted applied)
+          (answered aborted) (batch_step meaning.bodies old new body ending c.apply.ensures.room aborted applied.0)
           c.push_aborted.ensures.lines;
     }
 
@@ -51,7 +51,7 @@ returns-in-Some g c =
           answered_by meaning.bodies c.push_refusal.result (batch body ending) old new c.args.text.now.bytes c.push_refusal.new.text.bytes
           (answered (refused (record { cause = refusal.cause; at = refusal.at })))
           (refused_step meaning.bodies old new body ending c.apply.ensures.room refusal.cause refusal.at c.in-Some.why is applied.0
-          applied.1)
+          applied.2)
           (rw (cause_text-kind refusal.cause c.in-Some.why is) c.push_refusal.ensures.line);
     }
 
@@ -69,6 +69,6 @@ returns-in-None g c =
       answered =
           answered_by meaning.bodies c.push_no_memory.result (batch body ending) old new c.args.text.now.bytes
           c.push_no_memory.new.text.bytes no_memory
-          (short_step meaning.bodies old new body ending c.apply.ensures.room refusal.cause refusal.at is applied.0 applied.1)
+          (short_step meaning.bodies old new body ending c.apply.ensures.room refusal.cause refusal.at is applied.0 applied.2)
           c.push_no_memory.ensures.lines;
     }

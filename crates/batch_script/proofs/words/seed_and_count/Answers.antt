@@ -1,6 +1,6 @@
 use Rattle.std.proofs.Common.{arith}
 use Rattle.batch_script.proofs.WordFacts.{same_count}
-use Rattle.batch_script.proofs.words.numbers_of.Goals as goal
+use Rattle.batch_script.proofs.words.seed_and_count.Goals as goal
 
 pub returns-then-count-gt-MOST_BATCHES-clause-none : goal.returns-then-count-gt-MOST_BATCHES-clause-none
 returns-then-count-gt-MOST_BATCHES-clause-none c = λ from many asks.

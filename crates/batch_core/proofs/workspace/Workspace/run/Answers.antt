@@ -12,21 +12,24 @@ returns-in-Err-clause-refused g c ending =
     let start = c.args.self.now in
     let whole = batch_course start.contents c.args.commands.items in
     let rest = into_iter_items c.next.new.self in
+    let places = length c.args.commands.items in
     let along = subst (λ left. IsAlong whole start l.self (batch_course l.self.contents left) l.at) c.in-Some.ensures.steps.0
     l.invariant.along in
-    along_refused whole start l.self c.in-Some.command (batch_course _ rest) ending l.at c.in-Err.cause along c.mark.ensures.ready
-    c.mark.ensures.within c.in-Err.ensures.cause
+    along_refused places whole start l.self c.in-Some.command (batch_course _ rest) ending l.at c.in-Err.cause along
+    c.mark.ensures.ready c.mark.ensures.within c.in-Err.ensures.cause
 
 pub returns-in-Err-clause-never_oom_within : goal.returns-in-Err-clause-never_oom_within
 returns-in-Err-clause-never_oom_within g c fits =
     let start = c.args.self.now in
-    never_refused start.room start.contents (batch_course start.contents c.args.commands.items) Commit c.in-Err.cause
+    let places = length c.args.commands.items in
+    never_refused start.room places start.contents (batch_course start.contents c.args.commands.items) Commit c.in-Err.cause
     (c.loop-command.at + 1) (returns-in-Err-clause-refused g c Commit) fits
 
 pub returns-in-Err-clause-never_refused_within : goal.returns-in-Err-clause-never_refused_within
 returns-in-Err-clause-never_refused_within g c fits none =
     let start = c.args.self.now in
-    absurd (never_refused_at_all start.room start.contents (batch_course start.contents c.args.commands.items) Commit c.in-Err.cause
+    let course = batch_course start.contents c.args.commands.items in
+    absurd (never_refused_at_all start.room (length c.args.commands.items) start.contents course Commit c.in-Err.cause
     (c.loop-command.at + 1) (returns-in-Err-clause-refused g c Commit) fits none)
 
 pub loop-command-init : goal.loop-command-init

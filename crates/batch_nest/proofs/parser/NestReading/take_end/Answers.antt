@@ -1,7 +1,7 @@
 use Rattle.std.proofs.Common.{◌≡◌, [], ◌∷◌, ◌++◌, None, ap, arith, refl, sym, subst, ◌∙◌}
 use Rattle.std.proofs.lemmas.Result.{on_ok_weaker}
 use Rattle.batch_nest.specs.declared.item.NestItem.TheVariants.{Nest}
-use Rattle.batch_nest.specs.Nest.{end_line}
+use Rattle.batch_nest.specs.Nest.{nest_end}
 use Rattle.batch_nest.specs.Reading.{HaveRead}
 use Rattle.batch_nest.specs.Script.{printed_line}
 use Rattle.batch_nest.proofs.LineFacts.{step_end}
@@ -14,7 +14,7 @@ returns-then-begun-gt0 c =
     let items = c.args.self.now.items.items in
     let begun = c.in-Some.begun in
     let next = c.end_inner.new.self in
-    let line = end_line c.args.end in record {
+    let line = nest_end c.args.end in record {
       ok = on_ok_weaker c.end_inner.result
           (λ adds lines valid was. read_nest_line items begun next lines line
           (subst (λ begun. HaveRead items begun lines) c.in-Some.is was) valid adds.0
@@ -28,7 +28,7 @@ returns-in-Some-take c =
     let items = c.args.self.now.items.items in
     let begun = c.in-Some.begun in
     let taken = c.in-Some-take.field-0.lines in
-    let line = printed_line (end_line c.args.end) in
+    let line = printed_line (nest_end c.args.end) in
     let value = c.take.ensures.value in
     let is = c.in-Some-take.is in
     let same : begun ≡ c.in-Some-take.field-0 = cc in

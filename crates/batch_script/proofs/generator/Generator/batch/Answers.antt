@@ -1,5 +1,5 @@
 use Rattle.std.proofs.Common.{◌≡◌, ◌*◌, ◌∷◌, ◌++◌, [], ap, ◌∙◌, arith}
-use Rattle.batch_script.specs.Generated.{drawn_command, draw, end_of, next_number, number_after}
+use Rattle.batch_script.specs.Generated.{drawn_command, draw, drawn_end, next_number, number_after}
 use Rattle.batch_script.specs.Machine.{batch}
 use Rattle.batch_script.proofs.DrawFacts.{number_after-step, made-more, made_in_steps}
 use Rattle.batch_script.proofs.generator.Generator.batch.Goals as goal
@@ -20,7 +20,7 @@ returns c =
     let inv = c.loop.invariant in
     let eight : c.loop.counter ≡ 8 = omega (arith, c.loop-test.false, c.loop.auto.counter-end) in
     let held : c.loop.self.number ≡ number_after 24 number = inv.number ∙ ap (λ k. number_after (3 * k) number) eight in
-    let ended = c.end-end.ensures.end ∙ ap (λ x. end_of (draw 0 x)) held in
+    let ended = c.end-end.ensures.end ∙ ap (λ x. drawn_end (draw 0 x)) held in
     let commands = inv.commands ∙ ap (made_in_steps drawn_command 3 number) eight in
     record {
       batch = λ i. batch (commands i) (ended i);
