@@ -9,4 +9,5 @@ pub mod Many
 pub mod Room
 pub mod Same
 pub mod State
+pub mod Store
 pub mod Workspace

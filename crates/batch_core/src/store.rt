@@ -3,12 +3,13 @@ ghost use Rattle.std.specs.Prelude.{◌≡◌, ◌+◌, ◌<◌, ◌≤◌, ◌�
 ghost use Rattle.std.specs.Prelude.{IsTrue, IsOk, IsSome, IfSome, OnOk, OnErr};
 ghost use Rattle.std.specs.FinMap.{contains_key, len};
 ghost use Rattle.wic_slab.specs.Order.{max_capacity};
-ghost use Rattle.batch_core.specs.Back.{Grows, IsWithin, CanUndo, CanGoBack, undo_record, back};
+ghost use Rattle.batch_core.specs.Back.{Grows, IsWithin, CanUndo, CanGoBack, back};
 ghost use Rattle.batch_core.specs.State.{no_contents, IsSound};
 ghost use Rattle.batch_core.specs.Command.{cause_of, effect_of, unless};
 ghost use Rattle.wic_base.specs.Sets.{AllBelow};
 ghost use Rattle.wic_bitset.specs.Compound.{capacity_of};
 ghost use Rattle.batch_core.specs.Same.{HaveSameContents};
+ghost use Rattle.batch_core.specs.Store.{IsPrepared, DoesInPlace, MayDo, Undoes};
 ghost use Rattle.batch_core.specs.Workspace.{IsDone, IsKept, HasRoom};
 
 use crate::command::{Cause, Command};
@@ -159,11 +160,8 @@ impl<T: Drop> Store<T> {
     }
 
     fn push(&mut self, value: T) -> Result<(), OutOfMemory>
-        requires records { length self.old.records < self.old.capacities.records }
-        ensures ok { OnOk result (IsDone self.old (Command.Push value) self.new) }
-        ensures err { OnErr result (IsKept self.old self.new) }
-        ensures room { self.new.room ≡ self.old.room }
-        ensures grows { Grows self.old.capacities self.new.capacities }
+        requires { IsPrepared self.old (Command.Push value) }
+        ensures may_do { MayDo self.old (Command.Push value) result self.new }
         ensures refused_only_full { OnErr result
             (length self.old.contents.list ≡ self.old.capacities.list) }
     {
@@ -173,11 +171,8 @@ impl<T: Drop> Store<T> {
     }
 
     fn pop(&mut self)
-        requires records { length self.old.records < self.old.capacities.records }
-        requires admitted { cause_of self.old.contents Command.Pop ≡ None }
-        ensures done { IsDone self.old Command.Pop self.new }
-        ensures room { self.new.room ≡ self.old.room }
-        ensures capacities { self.new.capacities ≡ self.old.capacities }
+        requires { IsPrepared self.old Command.Pop }
+        ensures { DoesInPlace self.old Command.Pop self.new }
     {
         match self.list.pop() {
             Some(value) => self.records.push_reserved(Record::Popped(value)),
@@ -186,23 +181,16 @@ impl<T: Drop> Store<T> {
     }
 
     fn replace(&mut self, at: u64, value: T)
-        requires records { length self.old.records < self.old.capacities.records }
-        requires admitted { cause_of self.old.contents (Command.Set at value) ≡ None }
-        ensures done { IsDone self.old (Command.Set at value) self.new }
-        ensures room { self.new.room ≡ self.old.room }
-        ensures capacities { self.new.capacities ≡ self.old.capacities }
+        requires { IsPrepared self.old (Command.Set at value) }
+        ensures { DoesInPlace self.old (Command.Set at value) self.new }
     {
         let old = mem::replace(&mut self.list[at as usize], value);
         self.records.push_reserved(Record::Replaced { at, old });
     }
 
     fn alloc(&mut self, value: T) -> Result<(), OutOfMemory>
-        requires records { length self.old.records < self.old.capacities.records }
-        requires admitted { cause_of self.old.contents (Command.Alloc value) ≡ None }
-        ensures ok { OnOk result (IsDone self.old (Command.Alloc value) self.new) }
-        ensures err { OnErr result (IsKept self.old self.new) }
-        ensures room { self.new.room ≡ self.old.room }
-        ensures grows { Grows self.old.capacities self.new.capacities }
+        requires { IsPrepared self.old (Command.Alloc value) }
+        ensures may_do { MayDo self.old (Command.Alloc value) result self.new }
         ensures never_refused_within { len (effect_of self.old.contents (Command.Alloc value)).live
             ≤ self.old.capacities.table
             → IsOk result }
@@ -216,11 +204,8 @@ impl<T: Drop> Store<T> {
     }
 
     fn free(&mut self, id: u64)
-        requires records { length self.old.records < self.old.capacities.records }
-        requires admitted { cause_of self.old.contents (Command.Free id) ≡ None }
-        ensures done { IsDone self.old (Command.Free id) self.new }
-        ensures room { self.new.room ≡ self.old.room }
-        ensures capacities { self.new.capacities ≡ self.old.capacities }
+        requires { IsPrepared self.old (Command.Free id) }
+        ensures { DoesInPlace self.old (Command.Free id) self.new }
     {
         let id = self.live_id(id);
         let old = self.table.dealloc(id);
@@ -231,11 +216,8 @@ impl<T: Drop> Store<T> {
     }
 
     fn put(&mut self, id: u64, value: T)
-        requires records { length self.old.records < self.old.capacities.records }
-        requires admitted { cause_of self.old.contents (Command.Put id value) ≡ None }
-        ensures done { IsDone self.old (Command.Put id value) self.new }
-        ensures room { self.new.room ≡ self.old.room }
-        ensures capacities { self.new.capacities ≡ self.old.capacities }
+        requires { IsPrepared self.old (Command.Put id value) }
+        ensures { DoesInPlace self.old (Command.Put id value) self.new }
     {
         let id = self.live_id(id);
         let old = mem::replace(&mut self.table[id], value);
@@ -246,12 +228,8 @@ impl<T: Drop> Store<T> {
     }
 
     fn insert(&mut self, number: u64) -> Result<(), OutOfMemory>
-        requires records { length self.old.records < self.old.capacities.records }
-        requires admitted { cause_of self.old.contents (Command.Insert number) ≡ None }
-        ensures ok { OnOk result (IsDone self.old (Command.Insert number) self.new) }
-        ensures err { OnErr result (IsKept self.old self.new) }
-        ensures room { self.new.room ≡ self.old.room }
-        ensures grows { Grows self.old.capacities self.new.capacities }
+        requires { IsPrepared self.old (Command.Insert number) }
+        ensures may_do { MayDo self.old (Command.Insert number) result self.new }
         ensures never_refused_within { AllBelow self.old.capacities.set
             (effect_of self.old.contents (Command.Insert number)).set
             → IsOk result }
@@ -263,10 +241,8 @@ impl<T: Drop> Store<T> {
     }
 
     fn remove(&mut self, number: u64)
-        requires records { length self.old.records < self.old.capacities.records }
-        ensures done { IsDone self.old (Command.Remove number) self.new }
-        ensures room { self.new.room ≡ self.old.room }
-        ensures capacities { self.new.capacities ≡ self.old.capacities }
+        requires { IsPrepared self.old (Command.Remove number) }
+        ensures { DoesInPlace self.old (Command.Remove number) self.new }
     {
         let was_there = self.set.remove(number as usize);
         self.records
@@ -276,10 +252,7 @@ impl<T: Drop> Store<T> {
     // Makes room for all records before it takes the first value out.
     fn truncate(&mut self, kept: u64) -> Result<(), OutOfMemory>
         requires admitted { cause_of self.old.contents (Command.Truncate kept) ≡ None }
-        ensures ok { OnOk result (IsDone self.old (Command.Truncate kept) self.new) }
-        ensures err { OnErr result (IsKept self.old self.new) }
-        ensures room { self.new.room ≡ self.old.room }
-        ensures grows { Grows self.old.capacities self.new.capacities }
+        ensures may_do { MayDo self.old (Command.Truncate kept) result self.new }
         ensures never_refused_within { HasRoom self.old (Command.Truncate kept) → IsOk result }
     {
         // For the proof: the capacity is at most the greatest `usize`, so a number of records above that has no room.
@@ -407,10 +380,7 @@ impl<T: Drop> Store<T> {
     // Undoes one record, which was taken out of the list of records.
     fn undo(&mut self, newest: Record<T>)
         requires can { CanUndo self.old.capacities newest self.old.contents }
-        ensures contents { self.new.contents ≡ undo_record newest self.old.contents }
-        ensures records { self.new.records ≡ self.old.records }
-        ensures room { self.new.room ≡ self.old.room }
-        ensures capacities { self.new.capacities ≡ self.old.capacities }
+        ensures { Undoes self.old newest self.new }
     {
         match newest {
             Record::Pushed => self.drop_last(),
@@ -446,11 +416,7 @@ impl<T: Drop> Store<T> {
     // Puts a number that was taken out back into the set: there is a word for it.
     fn put_back(&mut self, number: u64)
         requires { CanUndo self.old.capacities (Record.Removed number true) self.old.contents }
-        ensures contents { self.new.contents
-            ≡ undo_record (Record.Removed number true) self.old.contents }
-        ensures records { self.new.records ≡ self.old.records }
-        ensures room { self.new.room ≡ self.old.room }
-        ensures capacities { self.new.capacities ≡ self.old.capacities }
+        ensures { Undoes self.old (Record.Removed number true) self.new }
     {
         match self.set.insert(number as usize) {
             Ok(_) => {}
@@ -459,10 +425,7 @@ impl<T: Drop> Store<T> {
     }
 
     fn drop_last(&mut self)
-        ensures contents { self.new.contents ≡ undo_record Record.Pushed self.old.contents }
-        ensures records { self.new.records ≡ self.old.records }
-        ensures room { self.new.room ≡ self.old.room }
-        ensures capacities { self.new.capacities ≡ self.old.capacities }
+        ensures { Undoes self.old Record.Pushed self.new }
     {
         let wanted = self.list.len().saturating_sub(1);
         self.list.truncate(wanted);
