@@ -255,10 +255,13 @@ impl Trial {
     }
 }
 
+fn batches_agree(alloc: Global) -> Result<bool, Fail> {
+    let mut trial = Trial::new(alloc);
+    trial.agrees_each_time(alloc)
+}
+
 #[test]
 fn random_batches_do_what_the_plain_model_does(rt: HostRuntime) -> Result<(), Fail> {
-    let alloc = rt.alloc();
-    let result = Trial::new(alloc).agrees_each_time(alloc);
-    assert!(rt; result?);
+    assert!(rt; batches_agree(rt.alloc())?);
     Ok(())
 }
