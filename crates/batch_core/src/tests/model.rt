@@ -1,5 +1,5 @@
 //! The plain model: it keeps the old state whole, and takes it back if a batch is given up.
-use super::applied;
+use super::{applied, in_new};
 use crate::{Batch, Command, Done, End, Refusal, Workspace};
 use std::alloc::{AllocError, Global};
 use std::collections::{BTreeMap, BTreeSet};
@@ -212,31 +212,22 @@ fn is_right(answer: &Result<Done, Refusal>, bad: u64, end: End) -> bool {
     }
 }
 
-// The plain model, a workspace, and the draws of the batches for both.
+// The plain model, and the draws of the batches for it and for a workspace.
 #[derive(Drop)]
 struct Trial {
     model: Model,
-    workspace: Workspace<u64>,
     draws: Draws,
 }
 
 impl Trial {
-    fn new(alloc: Global) -> Trial {
-        Trial {
-            model: Model::new(alloc),
-            workspace: Workspace::new(alloc),
-            draws: Draws(7),
-        }
-    }
-
     // Does one batch more, and returns whether the workspace says and holds what the model does.
-    fn agrees(&mut self, alloc: Global) -> Result<bool, Fail> {
+    fn agrees(&mut self, alloc: Global, workspace: &mut Workspace<u64>) -> Result<bool, Fail> {
         let batch = self.draws.batch(alloc)?;
         let end = batch.end;
         let (next, bad) = self.model.foreseen(batch.commands.as_slice())?;
-        let answer = applied(&mut self.workspace, batch);
+        let answer = applied(workspace, batch);
         self.settle(next, matches!(&answer, Ok(Done::Committed)));
-        Ok(is_right(&answer, bad, end) && self.model.is_held_by(&self.workspace))
+        Ok(is_right(&answer, bad, end) && self.model.is_held_by(workspace))
     }
 
     fn settle(&mut self, next: Model, is_committed: bool) {
@@ -245,9 +236,13 @@ impl Trial {
         }
     }
 
-    fn agrees_each_time(&mut self, alloc: Global) -> Result<bool, Fail> {
+    fn agrees_each_time(
+        &mut self,
+        alloc: Global,
+        workspace: &mut Workspace<u64>,
+    ) -> Result<bool, Fail> {
         for _ in 0..2000 {
-            if !self.agrees(alloc)? {
+            if !self.agrees(alloc, workspace)? {
                 return Ok(false);
             }
         }
@@ -255,13 +250,17 @@ impl Trial {
     }
 }
 
-fn batches_agree(alloc: Global) -> Result<bool, Fail> {
-    let mut trial = Trial::new(alloc);
-    trial.agrees_each_time(alloc)
+fn batches_agree(alloc: Global, workspace: &mut Workspace<u64>) -> Result<bool, Fail> {
+    let mut trial = Trial {
+        model: Model::new(alloc),
+        draws: Draws(7),
+    };
+    trial.agrees_each_time(alloc, workspace)
 }
 
 #[test]
 fn random_batches_do_what_the_plain_model_does(rt: HostRuntime) -> Result<(), Fail> {
-    assert!(rt; batches_agree(rt.alloc())?);
+    let alloc = rt.alloc();
+    assert!(rt; in_new(alloc, |workspace| batches_agree(alloc, workspace))?);
     Ok(())
 }
