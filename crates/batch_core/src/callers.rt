@@ -31,19 +31,7 @@ pub fn reserve_and_run<T: Drop>(
     Ok(())
 }
 
-// Tries two commands, which are undone, whether they could be done or not.
-fn try_two<T: Drop>(workspace: &mut Workspace<T>, tried: Command<T>, then: Command<T>)
-    ensures contents { workspace.new.contents ≡ workspace.old.contents }
-    ensures records { workspace.new.records ≡ workspace.old.records }
-{
-    let mark = workspace.mark();
-    if workspace.step(tried).is_ok() {
-        let _ = workspace.step(then);
-    }
-    workspace.back_to(mark);
-}
-
-// Does one command for good and tries two more.
+// Does one command for good and tries two more, which are undone, whether they could be done or not.
 pub fn keep_one_and_try_two<T: Drop>(
     workspace: &mut Workspace<T>,
     kept: Command<T>,
@@ -56,7 +44,11 @@ pub fn keep_one_and_try_two<T: Drop>(
         ≡ workspace.old.records ++ records_of workspace.old.contents kept) }
 {
     workspace.step(kept)?;
-    try_two(workspace, tried, then);
+    let mark = workspace.mark();
+    if workspace.step(tried).is_ok() {
+        let _ = workspace.step(then);
+    }
+    workspace.back_to(mark);
     Ok(())
 }
 
