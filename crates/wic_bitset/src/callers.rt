@@ -73,7 +73,20 @@ pub fn far_apart<L: Ledger>(
 ) -> Result<TryVec<usize>, OutOfMemory>
     ensures { steps.new ≤ steps.old + 2444 }
 {
-    let mut set: CompoundBitSet<u64> = CompoundBitSet::new(alloc);
+    let mut set = CompoundBitSet::new(alloc);
+    list_far_apart(alloc, &mut set, steps)
+}
+
+// The same in a new set that is lent.
+fn list_far_apart<L: Ledger>(
+    alloc: Global,
+    set: &mut CompoundBitSet<u64>,
+    steps: &mut Steps<L>,
+) -> Result<TryVec<usize>, OutOfMemory>
+    requires empty { set.old.members ≡ fin_set.empty }
+    requires words { set.old.words ≡ 0 }
+    ensures { steps.new ≤ steps.old + 2444 }
+{
     set.insert(0)?;
     set.insert(10000000)?;
     set.members(alloc, steps)
@@ -83,7 +96,20 @@ pub fn far_apart<L: Ledger>(
 pub fn emptied<L: Ledger>(alloc: Global, steps: &mut Steps<L>) -> Result<TryVec<usize>, OutOfMemory>
     ensures { steps.new ≤ steps.old + 1 }
 {
-    let mut set: CompoundBitSet<u64> = CompoundBitSet::new(alloc);
+    let mut set = CompoundBitSet::new(alloc);
+    list_emptied(alloc, &mut set, steps)
+}
+
+// The same in a new set that is lent.
+fn list_emptied<L: Ledger>(
+    alloc: Global,
+    set: &mut CompoundBitSet<u64>,
+    steps: &mut Steps<L>,
+) -> Result<TryVec<usize>, OutOfMemory>
+    requires empty { set.old.members ≡ fin_set.empty }
+    requires words { set.old.words ≡ 0 }
+    ensures { steps.new ≤ steps.old + 1 }
+{
     set.insert(64)?;
     set.remove(64);
     set.members(alloc, steps)

@@ -1,5 +1,5 @@
-//! Calls at concrete storages, and printed text. A function with no contract tells plain values of its own sets, so that a test
-//! compares them alone.
+//! Calls at concrete storages, and printed text. A set is lent to what tests it, so that few ways out of a function end one: that
+//! is quick to prove.
 ghost use Rattle.std.specs.Prelude.{◌≡◌, ◌<◌};
 
 use crate::CompoundBitSet;
@@ -9,64 +9,47 @@ use crate::callers::{
 use std::alloc::Global;
 use std::hash::{DefaultHasher, Hash, Hasher};
 use std::marker::Brand;
+use std::process::Abort;
 use std::sync::ledger::{Blank, Ledger};
 use std::test::Fail;
 use wic_base::{OutOfMemory, Steps};
 use wic_scalar::ScalarBitSetStorage;
 use wic_vec::TryVec;
 
-// A set of these numbers, inserted in this order.
-fn set_of<T: ScalarBitSetStorage>(
-    alloc: Global,
+// Puts these numbers in, in this order.
+fn put<T: ScalarBitSetStorage>(
+    set: &mut CompoundBitSet<T>,
     numbers: &[u32],
-) -> Result<CompoundBitSet<T>, OutOfMemory> {
-    let mut set = CompoundBitSet::new(alloc);
+) -> Result<(), OutOfMemory> {
     for number in numbers {
         set.insert(*number as usize)?;
     }
-    Ok(set)
+    Ok(())
 }
 
-// The members, as a walk gives them.
-fn listed<T: ScalarBitSetStorage>(
-    alloc: Global,
-    set: &CompoundBitSet<T>,
-) -> Result<Vec<usize>, Fail> {
-    let mut members = Vec::new(alloc);
-    for member in set {
-        members.push(member)?;
-    }
-    Ok(members)
+// Whether the set has just these members, in order.
+fn has_just<T: ScalarBitSetStorage>(set: &CompoundBitSet<T>, members: &[usize]) -> bool {
+    set.iter().eq(members.iter().copied())
 }
 
-// The capacity of a set with room for `n`.
+// The capacity of a set with room for `n`, made by either call.
 fn room_for(alloc: Global, n: u32) -> Result<(usize, usize), OutOfMemory> {
-    let one = CompoundBitSet::<u32>::with_capacity(alloc, n as usize)?;
-    let other = CompoundBitSet::<u32>::try_with_capacity(alloc, n as usize)?;
-    Ok((one.capacity(), other.capacity()))
+    let one = CompoundBitSet::<u32>::with_capacity(alloc, n as usize)?.capacity();
+    let other = CompoundBitSet::<u32>::try_with_capacity(alloc, n as usize)?.capacity();
+    Ok((one, other))
 }
 
-// The capacity of a set after each of these numbers was asked for.
-fn asked(alloc: Global, numbers: &[u32]) -> Result<Vec<usize>, Fail> {
-    let mut set: CompoundBitSet<u64> = CompoundBitSet::new(alloc);
-    let mut capacities = Vec::new(alloc);
-    for number in numbers {
+// Asks for room for each of these numbers: the capacity is then the one beside it.
+fn room_is(
+    rt: &impl Abort,
+    set: &mut CompoundBitSet<u64>,
+    asks: &[(u32, usize)],
+) -> Result<(), Fail> {
+    for (number, capacity) in asks {
         set.ensure_capacity(*number as usize)?;
-        capacities.push(set.capacity())?;
+        assert_eq!(rt; set.capacity(), *capacity);
     }
-    Ok(capacities)
-}
-
-// The capacity of a new set, and whether each of these numbers was new and the capacity after it.
-fn inserted(alloc: Global, numbers: &[u32]) -> Result<(usize, Vec<(bool, usize)>), Fail> {
-    let mut set: CompoundBitSet<u64> = CompoundBitSet::new(alloc);
-    let start = set.capacity();
-    let mut answers = Vec::new(alloc);
-    for number in numbers {
-        let is_new = set.insert(*number as usize)?;
-        answers.push((is_new, set.capacity()))?;
-    }
-    Ok((start, answers))
+    Ok(())
 }
 
 #[test]
@@ -74,127 +57,191 @@ fn room_grows_by_the_rule(rt: HostRuntime) -> Result<(), Fail> {
     let alloc = rt.alloc();
     assert_eq!(rt; room_for(alloc, 0)?, (0, 0));
     assert_eq!(rt; room_for(alloc, 4096)?, (4096, 4096));
-    let capacities = asked(alloc, &[1001, 1024, 1025])?;
-    assert_eq!(rt; capacities.as_slice(), [1024, 1024, 2048].as_slice());
+    let mut set = CompoundBitSet::new(alloc);
+    room_is(&rt, &mut set, &[(1001, 1024), (1024, 1024), (1025, 2048)])
+}
+
+// Puts each of these numbers into a set with no room: whether it is new, and the capacity then, stand beside it.
+fn room_comes(
+    rt: &impl Abort,
+    set: &mut CompoundBitSet<u64>,
+    inserts: &[(u32, bool, usize)],
+) -> Result<(), Fail> {
+    assert_eq!(rt; set.capacity(), 0);
+    for (number, is_new, capacity) in inserts {
+        assert_eq!(rt; set.insert(*number as usize)?, *is_new);
+        assert_eq!(rt; set.capacity(), *capacity);
+    }
     Ok(())
+}
+
+// The same for a new set.
+fn room_comes_to_a_new_set(
+    rt: &impl Abort,
+    alloc: Global,
+    inserts: &[(u32, bool, usize)],
+) -> Result<(), Fail> {
+    let mut set = CompoundBitSet::new(alloc);
+    room_comes(rt, &mut set, inserts)
 }
 
 #[test]
 fn a_new_set_has_no_room_and_grows_as_numbers_come(rt: HostRuntime) -> Result<(), Fail> {
-    let (start, far) = inserted(rt.alloc(), &[999, 1024])?;
-    assert_eq!(rt; start, 0);
-    assert_eq!(rt; far.as_slice(), [(true, 1024), (true, 2048)].as_slice());
-    let (_, near) = inserted(rt.alloc(), &[0, 0, 256])?;
-    assert_eq!(rt;
-        near.as_slice(),
-        [(true, 256), (false, 256), (true, 512)].as_slice()
-    );
-    Ok(())
+    let alloc = rt.alloc();
+    room_comes_to_a_new_set(&rt, alloc, &[(999, true, 1024), (1024, true, 2048)])?;
+    room_comes_to_a_new_set(
+        &rt,
+        alloc,
+        &[(0, true, 256), (0, false, 256), (256, true, 512)],
+    )
 }
 
-// What `pop` returns, once more than there are members, and whether `max` said so before each.
-fn popped(alloc: Global, numbers: &[u32]) -> Result<(Vec<Option<usize>>, bool), Fail> {
-    let mut set = set_of::<u64>(alloc, numbers)?;
-    let mut members = Vec::new(alloc);
-    let mut same = true;
-    for _ in 0..=numbers.len() {
-        let max = set.max();
-        let popped = set.pop();
-        same &= max == popped;
-        members.push(popped)?;
+// Puts these numbers in and takes all out: `max` and `pop` both give these, one after the other.
+fn come_out(
+    rt: &impl Abort,
+    set: &mut CompoundBitSet<u64>,
+    numbers: &[u32],
+    members: &[Option<usize>],
+) -> Result<(), Fail> {
+    put(set, numbers)?;
+    for member in members {
+        assert_eq!(rt; set.max(), *member);
+        assert_eq!(rt; set.pop(), *member);
     }
-    Ok((members, same))
+    Ok(())
 }
 
 #[test]
 fn the_greatest_is_taken_out_first(rt: HostRuntime) -> Result<(), Fail> {
-    let (members, same) = popped(rt.alloc(), &[111, 222, 333, 444, 555])?;
-    let expected = [Some(555), Some(444), Some(333), Some(222), Some(111), None];
-    assert_eq!(rt; members.as_slice(), expected.as_slice());
-    assert!(rt; same);
-    Ok(())
+    let mut set = CompoundBitSet::new(rt.alloc());
+    come_out(
+        &rt,
+        &mut set,
+        &[111, 222, 333, 444, 555],
+        &[Some(555), Some(444), Some(333), Some(222), Some(111), None],
+    )
 }
 
-// Whether `number` was taken out, and the debug text after it.
-fn without(alloc: Global, numbers: &[u32], number: usize) -> Result<(bool, String), Fail> {
-    let mut set = set_of::<u64>(alloc, numbers)?;
-    let was_present = set.remove(number);
-    Ok((was_present, format!(in alloc; "{set:?}")?))
+fn text_of(alloc: Global, set: &CompoundBitSet<u64>) -> Result<String, Fail> {
+    Ok(format!(in alloc; "{set:?}")?)
+}
+
+// Takes one number out of three: the debug text has the other two.
+fn rest_is_printed(
+    rt: &impl Abort,
+    alloc: Global,
+    set: &mut CompoundBitSet<u64>,
+) -> Result<(), Fail> {
+    put(set, &[444, 555, 666])?;
+    assert!(rt; set.remove(666));
+    assert_eq!(rt; text_of(alloc, set)?.as_str(), "CompoundBitSet {444, 555}");
+    Ok(())
 }
 
 #[test]
 fn a_member_is_taken_out_and_the_rest_is_printed(rt: HostRuntime) -> Result<(), Fail> {
-    let (was_present, text) = without(rt.alloc(), &[444, 555, 666], 666)?;
-    assert!(rt; was_present);
-    assert_eq!(rt; text.as_str(), "CompoundBitSet {444, 555}");
+    let alloc = rt.alloc();
+    let mut set = CompoundBitSet::new(alloc);
+    rest_is_printed(&rt, alloc, &mut set)
+}
+
+// Asks a new set for the greatest number there is: it isn't taken out and not there, and no room comes.
+fn greatest_number_is_asked_for(
+    rt: &impl Abort,
+    set: &mut CompoundBitSet<u64>,
+) -> Result<(), Fail> {
+    assert!(rt; !set.remove(18446744073709551615));
+    assert!(rt; !set.contains(18446744073709551615));
+    assert_eq!(rt; set.capacity(), 0);
     Ok(())
 }
 
-// Whether the greatest number is taken out of a new set and is in it, and the capacity.
-fn greatest_number(alloc: Global) -> (bool, bool, usize) {
-    let mut set: CompoundBitSet<u64> = CompoundBitSet::new(alloc);
-    let was_present = set.remove(18446744073709551615);
-    (
-        was_present,
-        set.contains(18446744073709551615),
-        set.capacity(),
-    )
+// Clears a set of these numbers twice: it is empty, and the capacity is this one.
+fn cleared_set_keeps_its_room(
+    rt: &impl Abort,
+    set: &mut CompoundBitSet<usize>,
+    numbers: &[u32],
+    capacity: usize,
+) -> Result<(), Fail> {
+    put(set, numbers)?;
+    for _ in 0..2 {
+        set.clear();
+        assert!(rt; set.is_empty());
+        assert!(rt; has_just(set, &[]));
+        assert_eq!(rt; set.capacity(), capacity);
+    }
+    Ok(())
 }
 
-// Whether a set of these numbers is empty once it is cleared, its capacity, and whether it was cleared again with no change.
-fn cleared(alloc: Global, numbers: &[u32]) -> Result<(bool, usize, bool), OutOfMemory> {
-    let mut set = set_of::<usize>(alloc, numbers)?;
-    set.clear();
-    let is_empty = set.is_empty() && set.iter().next().is_none();
-    let capacity = set.capacity();
-    set.clear();
-    Ok((
-        is_empty,
-        capacity,
-        set.is_empty() && set.capacity() == capacity,
-    ))
+// Clears a new set before and after these numbers are put in.
+fn sets_are_cleared(rt: &impl Abort, set: &mut CompoundBitSet<usize>) -> Result<(), Fail> {
+    cleared_set_keeps_its_room(rt, set, &[], 0)?;
+    cleared_set_keeps_its_room(rt, set, &[444, 666, 555], 896)
+}
+
+fn greatest_number_of_a_new_set(rt: &impl Abort, alloc: Global) -> Result<(), Fail> {
+    let mut set = CompoundBitSet::new(alloc);
+    greatest_number_is_asked_for(rt, &mut set)
 }
 
 #[test]
 fn any_number_may_be_asked_for_and_a_cleared_set_keeps_its_room(
     rt: HostRuntime,
 ) -> Result<(), Fail> {
-    assert_eq!(rt; greatest_number(rt.alloc()), (false, false, 0));
-    assert_eq!(rt; cleared(rt.alloc(), &[444, 666, 555])?, (true, 896, true));
-    assert_eq!(rt; cleared(rt.alloc(), &[])?, (true, 0, true));
-    Ok(())
+    let alloc = rt.alloc();
+    greatest_number_of_a_new_set(&rt, alloc)?;
+    let mut set = CompoundBitSet::new(alloc);
+    sets_are_cleared(&rt, &mut set)
 }
 
-// The first items of a walk over a set of the one number 1.
-fn walk_of_one(alloc: Global) -> Result<[Option<usize>; 4], OutOfMemory> {
-    let set = set_of::<u128>(alloc, &[1])?;
+// The first items of a walk.
+fn first_items(set: &CompoundBitSet<u128>) -> [Option<usize>; 4] {
     let mut walk = set.iter();
-    Ok([walk.next(), walk.next(), walk.next(), walk.next()])
+    [walk.next(), walk.next(), walk.next(), walk.next()]
+}
+
+// Walks over the one number 1.
+fn walk_stays(rt: &impl Abort, set: &mut CompoundBitSet<u128>) -> Result<(), Fail> {
+    put(set, &[1])?;
+    assert!(rt; first_items(set) == [Some(1), None, None, None]);
+    Ok(())
 }
 
 #[test]
 fn a_walk_stays_at_its_end(rt: HostRuntime) -> Result<(), Fail> {
-    assert!(rt; walk_of_one(rt.alloc())? == [Some(1), None, None, None]);
+    let mut set = CompoundBitSet::new(rt.alloc());
+    walk_stays(&rt, &mut set)
+}
+
+// Takes the greatest member out of the copy of a set: they were equal, and the set still has it.
+fn copy_is_changed(
+    rt: &impl Abort,
+    set: &CompoundBitSet<u64>,
+    copy: &mut CompoundBitSet<u64>,
+) -> Result<(), Fail> {
+    assert!(rt; *copy == *set);
+    copy.pop();
+    assert_eq!(rt; set.max(), Some(4096));
+    assert_eq!(rt; copy.max(), Some(789));
     Ok(())
 }
 
-// A set of these numbers, its copy without the greatest: whether they were equal first, and both maxima then.
-fn copied(
+// Copies a set.
+fn set_is_copied(
+    rt: &impl Abort,
     alloc: Global,
-    numbers: &[u32],
-) -> Result<(bool, Option<usize>, Option<usize>), OutOfMemory> {
-    let set = set_of::<u64>(alloc, numbers)?;
+    set: &mut CompoundBitSet<u64>,
+) -> Result<(), Fail> {
+    put(set, &[0, 4096, 123, 456, 789])?;
     let mut copy = set.try_clone(alloc)?;
-    let same = copy == set;
-    copy.pop();
-    Ok((same, set.max(), copy.max()))
+    copy_is_changed(rt, set, &mut copy)
 }
 
 #[test]
 fn a_copy_goes_its_own_way(rt: HostRuntime) -> Result<(), Fail> {
-    let told = copied(rt.alloc(), &[0, 4096, 123, 456, 789])?;
-    assert_eq!(rt; told, (true, Some(4096), Some(789)));
-    Ok(())
+    let alloc = rt.alloc();
+    let mut set = CompoundBitSet::new(alloc);
+    set_is_copied(&rt, alloc, &mut set)
 }
 
 // Lists of members, the last of a set whose members stand in different words of the last level.
@@ -206,23 +253,37 @@ struct Lists {
     far: TryVec<usize>,
 }
 
-// Lists of members, counted in a new ledger.
-fn counted<L: Ledger>(alloc: Global, blank: Blank) -> Result<Lists, OutOfMemory>
-    requires name { blank.name ≡ L.name }
-    requires parts { blank.parts ≡ L.parts }
-    requires some { 0 < L.parts }
-{
-    let mut steps = Steps::<L>::new(blank);
-    let five = set_of::<u64>(alloc, &[0, 4096, 123, 456, 789])?.members(alloc, &mut steps)?;
-    let two = far_apart(alloc, &mut steps)?;
-    let none = emptied(alloc, &mut steps)?;
-    let far = set_of::<u8>(alloc, &[100000, 0, 40000])?.members(alloc, &mut steps)?;
+// The lists of two new sets and of two callers.
+fn list_all<L: Ledger>(
+    alloc: Global,
+    near: &mut CompoundBitSet<u64>,
+    far: &mut CompoundBitSet<u8>,
+    steps: &mut Steps<L>,
+) -> Result<Lists, OutOfMemory> {
+    put(near, &[0, 4096, 123, 456, 789])?;
+    put(far, &[100000, 0, 40000])?;
+    let five = near.members(alloc, steps)?;
+    let two = far_apart(alloc, steps)?;
+    let none = emptied(alloc, steps)?;
+    let far = far.members(alloc, steps)?;
     Ok(Lists {
         five,
         two,
         none,
         far,
     })
+}
+
+// The same, counted in a new ledger.
+fn counted<L: Ledger>(alloc: Global, blank: Blank) -> Result<Lists, OutOfMemory>
+    requires name { blank.name ≡ L.name }
+    requires parts { blank.parts ≡ L.parts }
+    requires some { 0 < L.parts }
+{
+    let mut steps = Steps::<L>::new(blank);
+    let mut near = CompoundBitSet::new(alloc);
+    let mut far = CompoundBitSet::new(alloc);
+    list_all(alloc, &mut near, &mut far, &mut steps)
 }
 
 #[test]
@@ -235,47 +296,51 @@ fn members_are_listed(rt: HostRuntime) -> Result<(), Fail> {
     Ok(())
 }
 
-// The members of a set of these numbers as a walk gives them, as `pop` does, and once they are put in again, cleared, and 7 is put in.
-fn through_levels<T: ScalarBitSetStorage>(
-    alloc: Global,
+// Puts numbers in whose members are these, walks over them, takes all out and puts them in again; then it clears the set and puts 7 in.
+fn levels_are_gone_through<T: ScalarBitSetStorage>(
+    rt: &impl Abort,
+    set: &mut CompoundBitSet<T>,
     numbers: &[u32],
-) -> Result<(Vec<usize>, Vec<usize>, Vec<usize>), Fail> {
-    let mut set = set_of::<T>(alloc, numbers)?;
-    let walked = listed(alloc, &set)?;
-    let mut popped = Vec::new(alloc);
-    for _ in 0..=numbers.len() {
-        if let Some(member) = set.pop() {
-            popped.push(member)?;
-        }
+    members: &[usize],
+) -> Result<(), Fail> {
+    put(set, numbers)?;
+    assert!(rt; has_just(set, members));
+    for member in members.iter().rev() {
+        assert_eq!(rt; set.pop(), Some(*member));
     }
-    for number in numbers {
-        set.insert(*number as usize)?;
-    }
+    assert_eq!(rt; set.pop(), None);
+    put(set, numbers)?;
     set.clear();
     set.insert(7)?;
-    let cleared = listed(alloc, &set)?;
-    Ok((walked, popped, cleared))
+    assert!(rt; has_just(set, &[7]));
+    Ok(())
+}
+
+// The same for two widths of words.
+fn two_widths_are_gone_through(
+    rt: &impl Abort,
+    wide: &mut CompoundBitSet<u64>,
+    narrow: &mut CompoundBitSet<u8>,
+) -> Result<(), Fail> {
+    levels_are_gone_through(
+        rt,
+        wide,
+        &[20000000, 0, 63, 300000, 64],
+        &[0, 63, 64, 300000, 20000000],
+    )?;
+    levels_are_gone_through(rt, narrow, &[100000, 8, 0, 40000], &[0, 8, 40000, 100000])
 }
 
 #[test]
 fn members_far_apart_are_walked_popped_and_cleared(rt: HostRuntime) -> Result<(), Fail> {
-    let (walked, popped, cleared) = through_levels::<u64>(
-        rt.alloc(),
-        &[20000000, 0, 63, 300000, 64],
-    )?;
-    assert_eq!(rt; walked.as_slice(), [0, 63, 64, 300000, 20000000].as_slice());
-    assert_eq!(rt; popped.as_slice(), [20000000, 300000, 64, 63, 0].as_slice());
-    assert_eq!(rt; cleared.as_slice(), [7].as_slice());
-    let (walked, popped, cleared) = through_levels::<u8>(rt.alloc(), &[100000, 8, 0, 40000])?;
-    assert_eq!(rt; walked.as_slice(), [0, 8, 40000, 100000].as_slice());
-    assert_eq!(rt; popped.as_slice(), [100000, 40000, 8, 0].as_slice());
-    assert_eq!(rt; cleared.as_slice(), [7].as_slice());
-    Ok(())
+    let alloc = rt.alloc();
+    let mut wide = CompoundBitSet::new(alloc);
+    let mut narrow = CompoundBitSet::new(alloc);
+    two_widths_are_gone_through(&rt, &mut wide, &mut narrow)
 }
 
-// The words of a set of these numbers, up to that of the greatest.
-fn words_of(alloc: Global, numbers: &[u32]) -> Result<Vec<u32>, Fail> {
-    let set = set_of::<u32>(alloc, numbers)?;
+// The words of a set, up to that of the greatest member.
+fn words_of(alloc: Global, set: &CompoundBitSet<u32>) -> Result<Vec<u32>, Fail> {
     let mut words = Vec::new(alloc);
     for scalar in set.iter_scalars() {
         words.push(scalar.0)?;
@@ -283,23 +348,32 @@ fn words_of(alloc: Global, numbers: &[u32]) -> Result<Vec<u32>, Fail> {
     Ok(words)
 }
 
+// Puts one number after the other into a new set, and takes its words each time.
+fn words_come(rt: &impl Abort, alloc: Global, set: &mut CompoundBitSet<u32>) -> Result<(), Fail> {
+    assert!(rt; words_of(alloc, set)?.is_empty());
+    set.insert(0)?;
+    assert_eq!(rt; words_of(alloc, set)?.as_slice(), [1].as_slice());
+    set.insert(1)?;
+    assert_eq!(rt; words_of(alloc, set)?.as_slice(), [3].as_slice());
+    set.insert(32)?;
+    assert_eq!(rt; words_of(alloc, set)?.as_slice(), [3, 1].as_slice());
+    Ok(())
+}
+
 #[test]
 fn words_come_up_to_that_of_the_greatest(rt: HostRuntime) -> Result<(), Fail> {
     let alloc = rt.alloc();
-    assert!(rt; words_of(alloc, &[])?.is_empty());
-    assert_eq!(rt; words_of(alloc, &[0])?.as_slice(), [1].as_slice());
-    assert_eq!(rt; words_of(alloc, &[0, 1])?.as_slice(), [3].as_slice());
-    assert_eq!(rt; words_of(alloc, &[0, 1, 32])?.as_slice(), [3, 1].as_slice());
-    Ok(())
+    let mut set = CompoundBitSet::new(alloc);
+    words_come(&rt, alloc, &mut set)
 }
 
 // Two sets, and what is in either, in both, and in the first alone.
 struct Pair<'a> {
     left: &'a [u32],
     right: &'a [u32],
-    either: &'a [u32],
-    both: &'a [u32],
-    left_alone: &'a [u32],
+    either: &'a [usize],
+    both: &'a [usize],
+    left_alone: &'a [usize],
 }
 
 const PAIRS: [Pair<'static>; 5] = [
@@ -340,59 +414,78 @@ const PAIRS: [Pair<'static>; 5] = [
     },
 ];
 
-// Whether the set has just these numbers, in order.
-fn has_just(set: &CompoundBitSet<u16>, numbers: &[u32]) -> bool {
-    let mut numbers = numbers.iter();
-    for member in set {
-        match numbers.next() {
-            Some(number) => {
-                if member != *number as usize {
-                    return false;
-                }
-            },
-            None => return false,
-        }
-    }
-    numbers.next().is_none()
+// What both have.
+fn meets(
+    rt: &impl Abort,
+    set: &mut CompoundBitSet<u16>,
+    other: &CompoundBitSet<u16>,
+    pair: &Pair<'_>,
+) -> Result<(), Fail> {
+    put(set, pair.left)?;
+    assert_eq!(rt; set.is_disjoint(other), pair.both.is_empty());
+    assert_eq!(rt;
+        set.intersect_with(other),
+        pair.both.len() < pair.left.len()
+    );
+    assert!(rt; has_just(set, pair.both));
+    Ok(())
 }
 
-fn joins(alloc: Global, pair: &Pair<'_>) -> Result<bool, OutOfMemory> {
-    let mut set = set_of::<u16>(alloc, pair.left)?;
-    let other = set_of::<u16>(alloc, pair.right)?;
-    let added = set.union_with(&other)?;
-    Ok(has_just(&set, pair.either) && added == (pair.either.len() > pair.left.len()))
+// What the first set has alone.
+fn parts(
+    rt: &impl Abort,
+    set: &mut CompoundBitSet<u16>,
+    other: &CompoundBitSet<u16>,
+    pair: &Pair<'_>,
+) -> Result<(), Fail> {
+    put(set, pair.left)?;
+    assert_eq!(rt; set.is_subset(other), pair.left_alone.is_empty());
+    assert_eq!(rt;
+        set.subtract(other),
+        pair.left_alone.len() < pair.left.len()
+    );
+    assert!(rt; has_just(set, pair.left_alone));
+    Ok(())
 }
 
-fn meets(alloc: Global, pair: &Pair<'_>) -> Result<bool, OutOfMemory> {
-    let mut set = set_of::<u16>(alloc, pair.left)?;
-    let other = set_of::<u16>(alloc, pair.right)?;
-    let disjoint = set.is_disjoint(&other);
-    let dropped = set.intersect_with(&other);
-    Ok(
-        has_just(&set, pair.both)
-            && disjoint == pair.both.is_empty()
-            && dropped == (pair.both.len() < pair.left.len()),
-    )
+// What either has.
+fn joins(
+    rt: &impl Abort,
+    set: &mut CompoundBitSet<u16>,
+    other: &CompoundBitSet<u16>,
+    pair: &Pair<'_>,
+) -> Result<(), Fail> {
+    put(set, pair.left)?;
+    assert_eq!(rt; set.union_with(other)?, pair.either.len() > pair.left.len());
+    assert!(rt; has_just(set, pair.either));
+    Ok(())
 }
 
-fn parts(alloc: Global, pair: &Pair<'_>) -> Result<bool, OutOfMemory> {
-    let mut set = set_of::<u16>(alloc, pair.left)?;
-    let other = set_of::<u16>(alloc, pair.right)?;
-    let subset = set.is_subset(&other);
-    let dropped = set.subtract(&other);
-    Ok(
-        has_just(&set, pair.left_alone)
-            && subset == pair.left_alone.is_empty()
-            && dropped == (pair.left_alone.len() < pair.left.len()),
-    )
+// All of a pair with two new sets. The union is the last, since it alone makes room.
+fn two_sets_are_tried(
+    rt: &impl Abort,
+    set: &mut CompoundBitSet<u16>,
+    other: &mut CompoundBitSet<u16>,
+    pair: &Pair<'_>,
+) -> Result<(), Fail> {
+    put(other, pair.right)?;
+    meets(rt, set, other, pair)?;
+    set.clear();
+    parts(rt, set, other, pair)?;
+    set.clear();
+    joins(rt, set, other, pair)
+}
+
+fn pair_is_tried(rt: &impl Abort, alloc: Global, pair: &Pair<'_>) -> Result<(), Fail> {
+    let mut set = CompoundBitSet::new(alloc);
+    let mut other = CompoundBitSet::new(alloc);
+    two_sets_are_tried(rt, &mut set, &mut other, pair)
 }
 
 #[test]
 fn two_sets_are_joined_and_parted_by_words(rt: HostRuntime) -> Result<(), Fail> {
     for pair in &PAIRS {
-        assert!(rt; joins(rt.alloc(), pair)?);
-        assert!(rt; meets(rt.alloc(), pair)?);
-        assert!(rt; parts(rt.alloc(), pair)?);
+        pair_is_tried(&rt, rt.alloc(), pair)?;
     }
     Ok(())
 }
@@ -404,18 +497,29 @@ fn hash_of<T: ScalarBitSetStorage>(set: &CompoundBitSet<T>) -> u64 {
 }
 
 // Whether a set of these numbers and one that also held `more` are equal before and after `more` goes, and whether their hashes
-// are equal then.
+// are equal then. The two sets are new.
+fn compare<T: ScalarBitSetStorage>(
+    left: &mut CompoundBitSet<T>,
+    right: &mut CompoundBitSet<T>,
+    numbers: &[u32],
+    more: u32,
+) -> Result<(bool, bool, bool), OutOfMemory> {
+    put(left, numbers)?;
+    put(right, numbers)?;
+    right.insert(more as usize)?;
+    let before = *left == *right;
+    right.remove(more as usize);
+    Ok((before, *left == *right, hash_of(left) == hash_of(right)))
+}
+
 fn compared<T: ScalarBitSetStorage>(
     alloc: Global,
     numbers: &[u32],
     more: u32,
 ) -> Result<(bool, bool, bool), OutOfMemory> {
-    let left = set_of::<T>(alloc, numbers)?;
-    let mut right = set_of::<T>(alloc, numbers)?;
-    right.insert(more as usize)?;
-    let before = left == right;
-    right.remove(more as usize);
-    Ok((before, left == right, hash_of(&left) == hash_of(&right)))
+    let mut left = CompoundBitSet::<T>::new(alloc);
+    let mut right = CompoundBitSet::<T>::new(alloc);
+    compare(&mut left, &mut right, numbers, more)
 }
 
 #[test]
@@ -429,32 +533,29 @@ fn sets_are_equal_by_their_members_whatever_room_they_have(rt: HostRuntime) -> R
     Ok(())
 }
 
-// What callers leave of the set of 3 and 60, as a list, and the count of a walk.
-fn called(alloc: Global) -> Result<(Vec<usize>, usize), Fail> {
-    let mut set = set_of::<u16>(alloc, &[3, 60])?;
-    leave_for_a_while(&mut set, 60);
-    if set.capacity() > 8 {
-        give_way(&mut set, 3, 8);
-    }
-    let count = walked_count(&set);
-    Ok((listed(alloc, &set)?, count))
-}
-
-// What of the set of 3 and 60 is put into another set, and whether it has more than the first.
-fn moved(alloc: Global) -> Result<(Option<usize>, bool), OutOfMemory> {
-    let set = set_of::<u16>(alloc, &[3, 60])?;
-    let mut other = CompoundBitSet::<u16>::new(alloc);
-    let put = put_greatest(&set, &mut other)?;
-    Ok((put, restrict(&mut other, &set)))
+// What callers leave of the set of 3 and 60 and of another one. Both are new.
+fn callers_call(
+    rt: &impl Abort,
+    set: &mut CompoundBitSet<u16>,
+    other: &mut CompoundBitSet<u16>,
+) -> Result<(), Fail> {
+    put(set, &[3, 60])?;
+    assert_eq!(rt; put_greatest(set, other)?, Some(60));
+    assert!(rt; !restrict(other, set));
+    leave_for_a_while(set, 60);
+    assert!(rt; set.capacity() > 8);
+    give_way(set, 3, 8);
+    assert!(rt; has_just(set, &[8, 60]));
+    assert_eq!(rt; walked_count(set), 2);
+    Ok(())
 }
 
 #[test]
 fn callers_need_no_memory_below_the_capacity(rt: HostRuntime) -> Result<(), Fail> {
-    let (members, count) = called(rt.alloc())?;
-    assert_eq!(rt; members.as_slice(), [8, 60].as_slice());
-    assert_eq!(rt; count, 2);
-    assert_eq!(rt; moved(rt.alloc())?, (Some(60), false));
-    Ok(())
+    let alloc = rt.alloc();
+    let mut set = CompoundBitSet::new(alloc);
+    let mut other = CompoundBitSet::new(alloc);
+    callers_call(&rt, &mut set, &mut other)
 }
 
 // The next number of a plain generator of random numbers.
@@ -507,25 +608,29 @@ fn same_call(
     Ok(same && set.contains(number as usize) == has && set.max() == list.last().copied())
 }
 
-// The number of members left after 5000 such calls, if all of them, and the lists after each 500, say the same.
-fn after_random_calls(alloc: Global) -> Result<Option<usize>, Fail> {
-    let mut set = CompoundBitSet::new(alloc);
-    let mut list = Vec::new(alloc);
+// Does 5000 such calls: all of them, and the lists after each 500, say the same.
+fn calls_say_the_same(
+    rt: &impl Abort,
+    set: &mut CompoundBitSet<u16>,
+    list: &mut Vec<usize>,
+) -> Result<(), Fail> {
     let mut seed = 1;
     for call in 0..5000 {
         seed = random(seed);
-        if !same_call(seed, &mut set, &mut list)? {
-            return Ok(None);
-        }
-        if call % 500 == 499 && !(set.iter().eq(list.iter().copied()) && set.len() == list.len()) {
-            return Ok(None);
+        assert!(rt; same_call(seed, set, list)?);
+        if call % 500 == 499 {
+            assert!(rt; has_just(set, list.as_slice()));
+            assert_eq!(rt; set.len(), list.len());
         }
     }
-    Ok(Some(list.len()))
+    assert!(rt; list.len() > 100);
+    Ok(())
 }
 
 #[test]
 fn random_calls_do_what_a_sorted_list_does(rt: HostRuntime) -> Result<(), Fail> {
-    assert!(rt; after_random_calls(rt.alloc())?.is_some_and(|left| left > 100));
-    Ok(())
+    let alloc = rt.alloc();
+    let mut list = Vec::new(alloc);
+    let mut set = CompoundBitSet::new(alloc);
+    calls_say_the_same(&rt, &mut set, &mut list)
 }
