@@ -4,7 +4,7 @@ use Rattle.std.specs.Ordering.{nat_cmp}
 use Rattle.std.specs.FinMap.{FinMap, empty}
 use Rattle.std.specs.FinSet.{FinSet, contains, empty as no_members}
 use Rattle.wic_slab.specs.Order.{Order, from_zero, IsOrder, BelongsTo}
-use Rattle.batch_core.specs.declared.store.TheConstants.{MAX_MEMBER}
+use Rattle.wic_bitset.specs.Compound.{max_number}
 
 -- the contents: the values of the list in order, the numbers of the set, the values of the live ids, and the order of
 -- further ids
@@ -29,7 +29,7 @@ empty_state = record { contents = no_contents; room = 0 }
 
 -- the greatest number that the set can have
 abbrev pub max_member : ℕ
-max_member = MAX_MEMBER
+max_member = max_number
 
 -- the order is one, and the order of these live ids; the set has no greater number than it can have
 pub record IsSound {T : Type 0} (contents : Contents T) : Type 0 where

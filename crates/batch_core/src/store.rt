@@ -19,12 +19,9 @@ use std::alloc::Global;
 use std::marker::Model;
 use std::mem;
 use wic_base::OutOfMemory;
-use wic_bitset::CompoundBitSet;
+use wic_bitset::{CompoundBitSet, MAX_NUMBER};
 use wic_slab::{Id, MAX_CAPACITY, Slab};
 use wic_vec::TryVec;
-
-// The greatest number that the set can have.
-const MAX_MEMBER: u64 = 4294967295;
 
 /// Values in a list and in a table, numbers in a set, the records of what was done, and the room.
 #[derive(Drop)]
@@ -140,7 +137,7 @@ impl<T: Drop> Store<T> {
             Command::Alloc(_) => unless(self.table.len() < MAX_CAPACITY, Cause::Full),
             Command::Free(id) => unless(self.is_live(*id), Cause::Vacant),
             Command::Put(id, _) => unless(self.is_live(*id), Cause::Vacant),
-            Command::Insert(number) => unless(*number <= MAX_MEMBER, Cause::TooLarge),
+            Command::Insert(number) => unless(*number <= MAX_NUMBER as u64, Cause::TooLarge),
             Command::Remove(_) => None,
             Command::Truncate(kept) => {
                 unless(*kept as usize <= self.list.len(), Cause::Position)

@@ -3,22 +3,23 @@ ghost use Rattle.std.specs.Prelude.{◌≡◌, ℕ, ◌<◌, length, slice_index
 ghost use Rattle.std.specs.FinSet as fin_set;
 ghost use Rattle.wic_base.specs.Sets.{AllBelow};
 ghost use Rattle.entity_set.specs.Follows.{IsFollowed};
+ghost use Rattle.wic_bitset.specs.Compound.{max_capacity};
 
 use crate::{EntityRef, EntitySet, law_keys};
 use wic_base::OutOfMemory;
-use wic_bitset::CompoundBitSet;
+use wic_bitset::{CompoundBitSet, MAX_CAPACITY};
 
 // A block of a compiler.
 #[derive(Clone, Copy, Debug, PartialEq, Eq)]
 pub struct Block(pub u32);
 
 impl EntityRef for Block {
-    ghost limit = { 4294967296 };
+    ghost limit = { max_capacity };
 
     ghost number = { λ b. b.0 };
 
     fn limit() -> usize {
-        4294967296
+        MAX_CAPACITY
     }
 
     fn new(index: usize) -> Block {

@@ -1,5 +1,6 @@
 //! Keys.
 ghost use Rattle.std.specs.Prelude.{◌≡◌, ◌↔◌, ℕ, ◌<◌, ◌≤◌, IsTrue};
+ghost use Rattle.wic_bitset.specs.Compound.{max_capacity};
 
 /// A key of an entity, such as a block or a variable of a compiler: it has a number below a limit.
 ///
@@ -11,10 +12,10 @@ pub trait EntityRef: Copy + Eq {
     /// The number of a key.
     ghost number: { Self → ℕ };
 
-    /// The limit, at most 4294967296.
+    /// The limit, at most `MAX_CAPACITY` of wic_bitset, 4294967296.
     fn limit() -> usize
         ensures value { result ≡ limit }
-        ensures at_most { result ≤ 4294967296 };
+        ensures at_most { result ≤ max_capacity };
 
     /// A key with the number `index`, which is below the limit.
     fn new(index: usize) -> Self

@@ -7,6 +7,7 @@ ghost use Rattle.wic_base.specs.Sets.{AllBelow, HasFrom, HasMore};
 ghost use Rattle.wic_bitset.specs.Rising.{rising};
 ghost use Rattle.wic_bitset.specs.Room.{MakesRoomFor};
 ghost use Rattle.entity_set.specs.Entities.{MayGrow, TakesOut};
+ghost use Rattle.wic_bitset.specs.Compound.{max_capacity, max_number};
 
 use crate::entity::EntityRef;
 use crate::keys::Keys;
@@ -51,9 +52,9 @@ impl<K: EntityRef> EntitySet<K> {
         }
     }
 
-    /// The empty set with room for the keys whose numbers are below `n`, at most 4294967296. An `n` of 0 is never refused.
+    /// The empty set with room for the keys whose numbers are below `n`, at most `MAX_CAPACITY` of wic_bitset. An `n` of 0 is never refused.
     pub fn with_capacity(alloc: Global, n: usize) -> Result<EntitySet<K>, OutOfMemory>
-        requires within { n ≤ 4294967296 }
+        requires within { n ≤ max_capacity }
         ensures members { IfOk result (λ set. set.members ≡ fin_set.empty) }
         ensures capacity { IfOk result (λ set. n ≤ set.capacity) }
         ensures zero_never_refused { n ≡ 0 → IsOk result }
@@ -65,10 +66,10 @@ impl<K: EntityRef> EntitySet<K> {
         })
     }
 
-    /// Makes room for the keys whose numbers are below `n`, at most 4294967296. It is refused only if `n` is above the
-    /// capacity, and then the set is as before.
+    /// Makes room for the keys whose numbers are below `n`, at most `MAX_CAPACITY` of wic_bitset. It is refused only if `n` is
+    /// above the capacity, and then the set is as before.
     pub fn ensure_capacity(&mut self, n: usize) -> Result<(), OutOfMemory>
-        requires within { n ≤ 4294967296 }
+        requires within { n ≤ max_capacity }
         ensures room { MakesRoomFor (λ s. s.members) (λ s. s.capacity) n self.old self.new result }
     {
         self.bits.ensure_capacity(n)
@@ -79,7 +80,7 @@ impl<K: EntityRef> EntitySet<K> {
         ensures capacity { result ≡ self.now.capacity }
         ensures holds_all { AllBelow self.now.capacity self.now.members }
         ensures below_limit { AllBelow K.limit self.now.members }
-        ensures numbers { (i : ℕ) → fin_set.contains self.now.members i ≡ true → i ≤ 4294967295 }
+        ensures numbers { (i : ℕ) → fin_set.contains self.now.members i ≡ true → i ≤ max_number }
     {
         self.bits.capacity()
     }
@@ -87,7 +88,7 @@ impl<K: EntityRef> EntitySet<K> {
     /// The number of keys. It reads what a walk reads, and counts each word that has a key by one instruction.
     pub fn len(&self) -> usize
         ensures len { result ≡ fin_set.len self.now.members }
-        ensures few { result ≤ 4294967296 }
+        ensures few { result ≤ max_capacity }
     {
         self.bits.len()
     }
@@ -119,7 +120,7 @@ impl<K: EntityRef> EntitySet<K> {
         ensures members { self.new.members ≡ fin_set.remove self.old.members (K.number k) }
         ensures capacity_stays { self.new.capacity ≡ self.old.capacity }
         ensures below { IsTrue result → K.number k < self.old.capacity }
-        ensures number { IsTrue result → K.number k ≤ 4294967295 }
+        ensures number { IsTrue result → K.number k ≤ max_number }
     {
         self.bits.remove(k.index())
     }
@@ -128,7 +129,7 @@ impl<K: EntityRef> EntitySet<K> {
     pub fn contains(&self, k: K) -> bool
         ensures member { result ≡ fin_set.contains self.now.members (K.number k) }
         ensures below { IsTrue result → K.number k < self.now.capacity }
-        ensures number { IsTrue result → K.number k ≤ 4294967295 }
+        ensures number { IsTrue result → K.number k ≤ max_number }
     {
         self.bits.contains(k.index())
     }
@@ -145,7 +146,7 @@ impl<K: EntityRef> EntitySet<K> {
             self.new.members ≡ fin_set.remove self.old.members (K.number k)) }
         ensures capacity_stays { self.new.capacity ≡ self.old.capacity }
         ensures below { IfSome result (λ k. K.number k < self.old.capacity) }
-        ensures number { IfSome result (λ k. K.number k ≤ 4294967295) }
+        ensures number { IfSome result (λ k. K.number k ≤ max_number) }
     {
         let number = self.bits.pop()?;
         Some(K::new(number))
@@ -164,9 +165,9 @@ impl<K: EntityRef> EntitySet<K> {
         ensures members { result ≡ rising self.now.members }
         ensures each { fin_set.from_list result ≡ self.now.members }
         ensures once { IsStrictlyIncreasing result }
-        ensures few { length result ≤ 4294967296 }
+        ensures few { length result ≤ max_capacity }
         ensures below { All (λ i. i < self.now.capacity) result }
-        ensures numbers { All (λ i. i ≤ 4294967295) result }
+        ensures numbers { All (λ i. i ≤ max_number) result }
     {
         Keys::new(self.bits.iter())
     }
@@ -234,9 +235,9 @@ impl<K: EntityRef> EntitySet<K> {
 fn index_of<K: EntityRef>(k: K) -> usize
     ensures value { result ≡ K.number k }
     ensures below { result < K.limit }
-    ensures at_most { result ≤ 4294967295 }
+    ensures at_most { result ≤ max_number }
 {
-    // For the proof: the number is below the limit, which is at most 4294967296.
+    // For the proof: the number is below the limit, which is at most `MAX_CAPACITY`.
     let limit = K::limit();
     let number = k.index();
     prove!(number < limit);

@@ -17,6 +17,7 @@ use Rattle.wic_scalar.specs.Digits.{is_one}
 use Rattle.wic_scalar.specs.Scalar.{set_of}
 use Rattle.wic_scalar.proofs.MemberFacts.{contains_below, none_from_empty, same_from_sets}
 use Rattle.wic_scalar.proofs.CallFacts.{set_of-none, set_of-same}
+use Rattle.wic_bitset.specs.Compound.{max_number}
 use Rattle.wic_bitset.specs.Combination.{combined, words_to_combine, TellsChange, CombinesWord, CombinesToNone, KeepsNone, HasWordsFor}
 use Rattle.wic_bitset.specs.From.{IsLeastFrom, NoneFrom}
 use Rattle.wic_base.specs.Sets.{IsGreatest}
@@ -137,8 +138,8 @@ of_either Difference a b has = inl ((and_parts a (not b) has).0)
 
 -- so no member is larger than theirs
 pub combined_small : (w : ℕ) (how : Combination) (k : ℕ) (s t r : FinSet nat_cmp) → CombinesWord w how k s t r
-    → ((i : ℕ) → contains s i ≡ true → i ≤ 4294967295) → ((i : ℕ) → contains t i ≡ true → i ≤ 4294967295)
-    → (i : ℕ) → contains r i ≡ true → i ≤ 4294967295
+    → ((i : ℕ) → contains s i ≡ true → i ≤ max_number) → ((i : ℕ) → contains t i ≡ true → i ≤ max_number)
+    → (i : ℕ) → contains r i ≡ true → i ≤ max_number
 combined_small w how k s t r word first second i has = ⊎_elim
     (λ at. ⊎_elim
     (λ one. first i one)
@@ -148,19 +149,19 @@ combined_small w how k s t r word first second i has = ⊎_elim
     (cases_eq (i / w) k)
 
 -- a word that has a member has a number that a set can hold
-pub filled_small : (w : ℕ) (s : FinSet nat_cmp) (k : ℕ) → 0 < w → ((i : ℕ) → contains s i ≡ true → i ≤ 4294967295)
-    → (IsWordEmpty w s k → ⊥) → k ≤ 4294967295
+pub filled_small : (w : ℕ) (s : FinSet nat_cmp) (k : ℕ) → 0 < w → ((i : ℕ) → contains s i ≡ true → i ≤ max_number)
+    → (IsWordEmpty w s k → ⊥) → k ≤ max_number
 filled_small w s k some small filled = ⊎_elim
     (λ above. absurd (filled (λ i at. false_from_ne_true (contains s i) (λ has. absurd (
     let le = small i has in
     let down = div-le_self i w in
     omega arith)))))
     (λ le. le)
-    (cases_lt 4294967295 k)
+    (cases_lt max_number k)
 
 module _ (w : ℕ) (how : Combination) (k : ℕ) (words words' : Words) (marks marks' t : FinSet nat_cmp) (end end' : ℕ)
     (old : Summarizes w words marks end) (word : CombinesWord w how k words.members t words'.members)
-    (small : (i : ℕ) → contains t i ≡ true → i ≤ 4294967295) (within : k < words.count) (count : words'.count ≡ words.count)
+    (small : (i : ℕ) → contains t i ≡ true → i ≤ max_number) (within : k < words.count) (count : words'.count ≡ words.count)
     (same_end : end' ≡ end) where
   -- the other words are as empty as before
   word_kept : (q : ℕ) → q ≢ k → IsWordEmpty w words'.members q ↔ IsWordEmpty w words.members q

@@ -5,6 +5,7 @@ use Rattle.std.specs.Ordering.{nat_cmp}
 use Rattle.std.specs.FinSet.{FinSet, empty, contains, insert, remove}
 use Rattle.std.proofs.lemmas.Bool.{cases_eq, cases_lt, cases_Bool, false_from_ne_true}
 use Rattle.std.specs.Prelude.{All}
+use Rattle.wic_bitset.specs.Compound.{max_number}
 use Rattle.wic_bitset.specs.Rising.{rising, word_members}
 use Rattle.wic_bitset.proofs.BetweenFacts.{All-between}
 use Rattle.wic_bitset.proofs.RisingFacts.{All-rising}
@@ -30,7 +31,7 @@ module _ (w i : ℕ) (words words' : Words) (marks marks' : FinSet nat_cmp) (end
   -- i alone and its word alone are in or out otherwise than before, and its word is marked as it should be
   changed : ((q : ℕ) → q ≢ i → contains words'.members q ≡ contains words.members q)
       → ((k : ℕ) → k ≢ i / w → contains marks' k ≡ contains marks k)
-      → (contains words'.members i ≡ true → (i / w < words.count) × (i ≤ 4294967295))
+      → (contains words'.members i ≡ true → (i / w < words.count) × (i ≤ max_number))
       → (contains marks' (i / w) ≡ false) ↔ IsWordEmpty w words'.members (i / w) → Summarizes w words' marks' end'
   changed others other_marks here word = record {
     digits = λ k. ⊎_elim
@@ -53,7 +54,7 @@ module _ (w i : ℕ) (words words' : Words) (marks marks' : FinSet nat_cmp) (end
   }
 
   -- i is put in, and its word
-  pub Summarizes-insert : i / w < words.count → i ≤ 4294967295 → words'.members ≡ insert words.members i
+  pub Summarizes-insert : i / w < words.count → i ≤ max_number → words'.members ≡ insert words.members i
       → marks' ≡ insert marks (i / w) → Summarizes w words' marks' end'
   Summarizes-insert within small put marked = changed
       (λ q apart. ap (λ s. contains s q) put ∙ same_after_insert words.members i q apart)
@@ -64,7 +65,7 @@ module _ (w i : ℕ) (words words' : Words) (marks marks' : FinSet nat_cmp) (end
       )
 
   -- i is put in, and its word has another member
-  pub Summarizes-insert_filled : i / w < words.count → i ≤ 4294967295 → words'.members ≡ insert words.members i → marks' ≡ marks
+  pub Summarizes-insert_filled : i / w < words.count → i ≤ max_number → words'.members ≡ insert words.members i → marks' ≡ marks
       → (IsWordEmpty w words.members (i / w) → ⊥) → Summarizes w words' marks' end'
   Summarizes-insert_filled within small put same filled =
       let marked : contains marks (i / w) ≡ true = ⊎_elim

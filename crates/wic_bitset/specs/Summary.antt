@@ -3,6 +3,7 @@ use Rattle.std.specs.Prelude.{◌≡◌, ℕ, ◌/◌, ◌≤◌, List, map, fal
 use Rattle.std.specs.List.{flat_map}
 use Rattle.std.specs.Ordering.{nat_cmp}
 use Rattle.std.specs.FinSet.{FinSet, contains, items, from_list}
+use Rattle.wic_bitset.specs.Compound.{max_number}
 use Rattle.wic_bitset.specs.Rising.{word_members}
 use Rattle.wic_bitset.specs.Words.{Words, most_words, EndsBefore, IsWordEmpty}
 
@@ -10,9 +11,9 @@ use Rattle.wic_bitset.specs.Words.{Words, most_words, EndsBefore, IsWordEmpty}
 pub record Summarizes (w : ℕ) (words : Words) (marks : FinSet nat_cmp) (end : ℕ) : Type 0 where
   pub digits : (k : ℕ) → (contains marks k ≡ false) ↔ IsWordEmpty w words.members k
   pub reach : words.count ≤ end
-  -- and of the words themselves: each member has one, none is above 4294967295, and there are not too many
+  -- and of the words themselves: each member has one, none is above the greatest number, and there are not too many
   pub ends : EndsBefore w words.members words.count
-  pub numbers : (i : ℕ) → contains words.members i ≡ true → i ≤ 4294967295
+  pub numbers : (i : ℕ) → contains words.members i ≡ true → i ≤ max_number
   pub few : words.count ≤ most_words
 
 -- the words that have a member: the different values of a member divided by the width, rounded down

@@ -1,7 +1,7 @@
 //! Callers of a set, proved from its contracts alone.
 ghost use Rattle.std.specs.Prelude.{◌≡◌, ◌+◌, ◌<◌, ◌≤◌, false, IfOk, IfSome};
 ghost use Rattle.std.specs.FinSet as fin_set;
-ghost use Rattle.wic_bitset.specs.Compound.{capacity_of};
+ghost use Rattle.wic_bitset.specs.Compound.{capacity_of, max_number};
 
 use crate::{CompoundBitSet, law_members};
 use std::alloc::Global;
@@ -13,7 +13,7 @@ use wic_vec::TryVec;
 // Puts one number in the place of another. Below the capacity nothing is allocated, so nothing is refused.
 pub fn give_way<T: ScalarBitSetStorage>(set: &mut CompoundBitSet<T>, from: usize, to: usize)
     requires within { to < capacity_of T.width set.old }
-    requires number { to ≤ 4294967295 }
+    requires number { to ≤ max_number }
     ensures members { set.new.members ≡ fin_set.insert (fin_set.remove set.old.members from) to }
     ensures words { set.new.words ≡ set.old.words }
 {

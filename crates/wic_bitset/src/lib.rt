@@ -69,4 +69,4 @@ mod word_iter;
 pub use iter::Iter;
 pub use iter_scalars::IterScalars;
 pub use laws::{law_growth, law_members};
-pub use set::CompoundBitSet;
+pub use set::{CompoundBitSet, MAX_CAPACITY, MAX_NUMBER};

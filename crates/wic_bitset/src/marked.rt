@@ -6,6 +6,7 @@ ghost use Rattle.wic_bitset.specs.Combination.{combined, words_to_combine, Combi
 ghost use Rattle.wic_bitset.specs.From.{IsMinFrom};
 ghost use Rattle.wic_bitset.specs.Greatest.{IsMax};
 ghost use Rattle.wic_bitset.specs.Summary.{Summarizes};
+ghost use Rattle.wic_bitset.specs.Compound.{max_number};
 
 use crate::combination::Combination;
 use crate::number_set::NumberSet;
@@ -22,7 +23,7 @@ pub fn insert_into<T: ScalarBitSetStorage, S: NumberSet>(
 ) -> bool
     requires marks { Summarizes T.width words.old (S.members marks.old) (S.end marks.old) }
     requires within { i < words.old.count * T.width }
-    requires number { i ≤ 4294967295 }
+    requires number { i ≤ max_number }
     ensures new { result ≡ not (fin_set.contains words.old.members i) }
     ensures members { words.new.members ≡ fin_set.insert words.old.members i }
     ensures count { words.new.count ≡ words.old.count }
@@ -153,7 +154,7 @@ pub fn combine_marked_word<T: ScalarBitSetStorage, S: NumberSet>(
 ) -> bool
     requires marks { Summarizes T.width words.old (S.members marks.old) (S.end marks.old) }
     requires within { k < words.old.count }
-    requires numbers { (i : ℕ) → fin_set.contains other.now.members i ≡ true → i ≤ 4294967295 }
+    requires numbers { (i : ℕ) → fin_set.contains other.now.members i ≡ true → i ≤ max_number }
     ensures members { CombinesWord T.width how k
         words.old.members other.now.members words.new.members }
     ensures changed { TellsChange result words.old.members words.new.members }

@@ -5,6 +5,7 @@ ghost use Rattle.std.specs.Ordering.{nat_cmp};
 ghost use Rattle.wic_bitset.specs.From.{IsMinFrom};
 ghost use Rattle.wic_bitset.specs.Greatest.{IsMax};
 ghost use Rattle.wic_bitset.specs.Words.{most_words};
+ghost use Rattle.wic_bitset.specs.Compound.{max_number};
 
 use std::alloc::Global;
 use wic_base::OutOfMemory;
@@ -35,7 +36,7 @@ pub trait NumberSet: Drop {
     /// Puts `i` in.
     fn insert(&mut self, i: usize)
         requires within { i < end self.old }
-        requires number { i ≤ 4294967295 }
+        requires number { i ≤ max_number }
         ensures members { members self.new ≡ fin_set.insert (members self.old) i }
         ensures end { end self.new ≡ end self.old }
         ensures room { room self.new ≡ room self.old };

@@ -6,7 +6,7 @@ ghost use Rattle.std.specs.List.Sorted.{IsStrictlyIncreasing};
 ghost use Rattle.std.specs.FinSet as fin_set;
 ghost use Rattle.std.specs.Int.{div_ceil};
 ghost use Rattle.std.specs.Ordering.{nat_cmp};
-ghost use Rattle.wic_bitset.specs.Compound.{capacity_of};
+ghost use Rattle.wic_bitset.specs.Compound.{capacity_of, max_capacity, max_number};
 ghost use Rattle.wic_bitset.specs.Greatest.{IsMax};
 ghost use Rattle.wic_base.specs.Sets.{IsGreatest};
 ghost use Rattle.wic_bitset.specs.Growth.{count_after, count_for};
@@ -32,7 +32,13 @@ use wic_base::{OutOfMemory, Steps};
 use wic_scalar::ScalarBitSetStorage;
 use wic_vec::TryVec;
 
-/// A set of numbers, each at most 4294967295, in words of `T`.
+/// The greatest number that a set can have.
+pub const MAX_NUMBER: usize = 4294967295;
+
+/// As many numbers as a set can have, and the greatest capacity that can be asked for.
+pub const MAX_CAPACITY: usize = 4294967296;
+
+/// A set of numbers, each at most `MAX_NUMBER`, in words of `T`.
 ///
 /// A contract sees its `members`, a finite set, and the number of its `words`; the capacity is the words times the
 /// width of `T`.
@@ -74,9 +80,9 @@ impl<T: ScalarBitSetStorage> CompoundBitSet<T> {
         }
     }
 
-    /// The empty set with room for the numbers below `capacity`, at most 4294967296. A capacity of 0 is never refused.
+    /// The empty set with room for the numbers below `capacity`, at most `MAX_CAPACITY`. A capacity of 0 is never refused.
     pub fn with_capacity(alloc: Global, capacity: usize) -> Result<CompoundBitSet<T>, OutOfMemory>
-        requires within { capacity ≤ 4294967296 }
+        requires within { capacity ≤ max_capacity }
         ensures members { IfOk result (λ set. set.members ≡ fin_set.empty) }
         ensures words { IfOk result (λ set. set.words ≡ count_for T.width 0 capacity) }
         ensures capacity { IfOk result (λ set. capacity ≤ capacity_of T.width set) }
@@ -90,7 +96,7 @@ impl<T: ScalarBitSetStorage> CompoundBitSet<T> {
         alloc: Global,
         capacity: usize,
     ) -> Result<CompoundBitSet<T>, OutOfMemory>
-        requires within { capacity ≤ 4294967296 }
+        requires within { capacity ≤ max_capacity }
         ensures members { IfOk result (λ set. set.members ≡ fin_set.empty) }
         ensures words { IfOk result (λ set. set.words ≡ count_for T.width 0 capacity) }
         ensures capacity { IfOk result (λ set. capacity ≤ capacity_of T.width set) }
@@ -117,7 +123,7 @@ impl<T: ScalarBitSetStorage> CompoundBitSet<T> {
 
     /// Makes room for the numbers below `n`, as `try_ensure_capacity` does.
     pub fn ensure_capacity(&mut self, n: usize) -> Result<(), OutOfMemory>
-        requires within { n ≤ 4294967296 }
+        requires within { n ≤ max_capacity }
         ensures room { MakesRoomFor (λ s. s.members) (capacity_of T.width) n
             self.old self.new result }
         ensures words { OnOk result (self.new.words ≡ count_for T.width self.old.words n) }
@@ -125,11 +131,11 @@ impl<T: ScalarBitSetStorage> CompoundBitSet<T> {
         self.try_ensure_capacity(n)
     }
 
-    /// Makes room for the numbers below `n`, at most 4294967296. If there is room, it does nothing; else the count of words grows
+    /// Makes room for the numbers below `n`, at most `MAX_CAPACITY`. If there is room, it does nothing; else the count of words grows
     /// by the rule of growth for the word of `n - 1`. It is refused only if `n` is above the capacity, and then the set is as
     /// before, where the original loses the members.
     pub fn try_ensure_capacity(&mut self, n: usize) -> Result<(), OutOfMemory>
-        requires within { n ≤ 4294967296 }
+        requires within { n ≤ max_capacity }
         ensures room { MakesRoomFor (λ s. s.members) (capacity_of T.width) n
             self.old self.new result }
         ensures words { OnOk result (self.new.words ≡ count_for T.width self.old.words n) }
@@ -140,10 +146,10 @@ impl<T: ScalarBitSetStorage> CompoundBitSet<T> {
         self.make_room_for(n - 1)
     }
 
-    /// Puts `i`, at most 4294967295, in, and returns whether it is new. If `i` is at the capacity or above, the count of words
+    /// Puts `i`, at most `MAX_NUMBER`, in, and returns whether it is new. If `i` is at the capacity or above, the count of words
     /// grows first, by the rule of growth for the word of `i`. It is refused only then, and the set is as before.
     pub fn insert(&mut self, i: usize) -> Result<bool, OutOfMemory>
-        requires number { i ≤ 4294967295 }
+        requires number { i ≤ max_number }
         ensures new { IfOk result (λ is_new. is_new ≡ not (fin_set.contains self.old.members i)) }
         ensures members { OnOk result (self.new.members ≡ fin_set.insert self.old.members i) }
         ensures words { OnOk result (self.new.words ≡ count_after self.old.words (i / T.width)) }
@@ -165,7 +171,7 @@ impl<T: ScalarBitSetStorage> CompoundBitSet<T> {
         ensures members { self.new.members ≡ fin_set.remove self.old.members i }
         ensures words { self.new.words ≡ self.old.words }
         ensures below { IsTrue result → i < capacity_of T.width self.old }
-        ensures number { IsTrue result → i ≤ 4294967295 }
+        ensures number { IsTrue result → i ≤ max_number }
     {
         let was_present = remove_from(&mut self.words, &mut self.summary, i);
         if self.max == Some(i) {
@@ -185,7 +191,7 @@ impl<T: ScalarBitSetStorage> CompoundBitSet<T> {
             self.new.members ≡ fin_set.remove self.old.members x) }
         ensures words { self.new.words ≡ self.old.words }
         ensures below { IfSome result (λ x. x < capacity_of T.width self.old) }
-        ensures number { IfSome result (λ x. x ≤ 4294967295) }
+        ensures number { IfSome result (λ x. x ≤ max_number) }
     {
         let max = self.max?;
         self.remove(max);
@@ -209,7 +215,7 @@ impl<T: ScalarBitSetStorage> CompoundBitSet<T> {
     pub fn contains(&self, i: usize) -> bool
         ensures member { result ≡ fin_set.contains self.now.members i }
         ensures below { IsTrue result → i < capacity_of T.width self.now }
-        ensures number { IsTrue result → i ≤ 4294967295 }
+        ensures number { IsTrue result → i ≤ max_number }
     {
         self.words.contains(i)
     }
@@ -221,7 +227,7 @@ impl<T: ScalarBitSetStorage> CompoundBitSet<T> {
         ensures greatest { IfSome result (λ x. (i : ℕ)
             → fin_set.contains self.now.members i ≡ true → i ≤ x) }
         ensures below { IfSome result (λ x. x < capacity_of T.width self.now) }
-        ensures number { IfSome result (λ x. x ≤ 4294967295) }
+        ensures number { IfSome result (λ x. x ≤ max_number) }
         ensures last { result ≡ last_or None (rising self.now.members) }
     {
         self.max
@@ -230,7 +236,7 @@ impl<T: ScalarBitSetStorage> CompoundBitSet<T> {
     /// The number of members. It counts each word that has a member by one instruction.
     pub fn len(&self) -> usize
         ensures len { result ≡ fin_set.len self.now.members }
-        ensures few { result ≤ 4294967296 }
+        ensures few { result ≤ max_capacity }
     {
         let mut count = 0;
         for k in self.filled() {
@@ -250,7 +256,7 @@ impl<T: ScalarBitSetStorage> CompoundBitSet<T> {
     pub fn capacity(&self) -> usize
         ensures capacity { result ≡ capacity_of T.width self.now }
         ensures holds_all { (i : ℕ) → fin_set.contains self.now.members i ≡ true → i < result }
-        ensures numbers { (i : ℕ) → fin_set.contains self.now.members i ≡ true → i ≤ 4294967295 }
+        ensures numbers { (i : ℕ) → fin_set.contains self.now.members i ≡ true → i ≤ max_number }
     {
         self.words.capacity()
     }
@@ -260,9 +266,9 @@ impl<T: ScalarBitSetStorage> CompoundBitSet<T> {
         ensures members { result ≡ rising self.now.members }
         ensures each { fin_set.from_list result ≡ self.now.members }
         ensures once { IsStrictlyIncreasing result }
-        ensures few { length result ≤ 4294967296 }
+        ensures few { length result ≤ max_capacity }
         ensures below { All (λ i. i < capacity_of T.width self.now) result }
-        ensures numbers { All (λ i. i ≤ 4294967295) result }
+        ensures numbers { All (λ i. i ≤ max_number) result }
     {
         Iter::new(&self.words, self.filled())
     }
@@ -297,7 +303,7 @@ impl<T: ScalarBitSetStorage> CompoundBitSet<T> {
     // Asks for the word of `i`: the count of words becomes what the rule of growth says. It reserves the room of all levels of the
     // summary first, then that of the words, and changes none until it has all.
     fn make_room_for(&mut self, i: usize) -> Result<(), OutOfMemory>
-        requires number { i ≤ 4294967295 }
+        requires number { i ≤ max_number }
         ensures members { self.new.members ≡ self.old.members }
         ensures words { OnOk result (self.new.words ≡ count_after self.old.words (i / T.width)) }
         ensures room { OnOk result (i + 1 ≤ capacity_of T.width self.new) }
@@ -321,7 +327,7 @@ impl<T: ScalarBitSetStorage> CompoundBitSet<T> {
     // Puts `i`, which is below the capacity, in, and returns whether it is new.
     fn insert_below(&mut self, i: usize) -> bool
         requires within { i < capacity_of T.width self.old }
-        requires number { i ≤ 4294967295 }
+        requires number { i ≤ max_number }
         ensures new { result ≡ not (fin_set.contains self.old.members i) }
         ensures members { self.new.members ≡ fin_set.insert self.old.members i }
         ensures words { self.new.words ≡ self.old.words }

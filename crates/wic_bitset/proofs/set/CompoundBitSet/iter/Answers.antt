@@ -5,6 +5,7 @@ use Rattle.std.specs.Ordering.{nat_cmp}
 use Rattle.std.specs.List.{flat_map}
 use Rattle.std.specs.List.Sorted.{IsStrictlyIncreasing}
 use Rattle.std.specs.FinSet.{from_list}
+use Rattle.wic_bitset.specs.Compound.{max_capacity, max_number}
 use Rattle.wic_bitset.specs.Rising.{rising, word_members}
 use Rattle.wic_bitset.specs.Summary.{filled_words}
 use Rattle.wic_bitset.proofs.ByWordFacts.{by_words}
@@ -37,9 +38,9 @@ returns-clause-once g c =
 
 pub returns-clause-few : goal.returns-clause-few
 returns-clause-few g c =
-    subst (λ list. length list ≤ 4294967296) (sym (returns-clause-members g c))
-    (subst (λ v. length (rising v.members) ≤ 4294967296) c.self.view_is
-    (length-rising-le c.self.inside.words.members 4294967296 (λ i has. let h = c.self.invariant.0.numbers i has in omega arith)))
+    subst (λ list. length list ≤ max_capacity) (sym (returns-clause-members g c))
+    (subst (λ v. length (rising v.members) ≤ max_capacity) c.self.view_is
+    (length-rising-le c.self.inside.words.members max_capacity (λ i has. let h = c.self.invariant.0.numbers i has in omega arith)))
 
 pub returns-clause-below : goal.returns-clause-below
 returns-clause-below g c =
@@ -51,6 +52,6 @@ returns-clause-below g c =
 
 pub returns-clause-numbers : goal.returns-clause-numbers
 returns-clause-numbers g c =
-    subst (All (λ i. i ≤ 4294967295)) (sym (returns-clause-members g c))
-    (subst (λ v. All (λ i. i ≤ 4294967295) (rising v.members)) c.self.view_is
-    (All-rising (λ i. i ≤ 4294967295) c.self.inside.words.members c.self.invariant.0.numbers))
+    subst (All (λ i. i ≤ max_number)) (sym (returns-clause-members g c))
+    (subst (λ v. All (λ i. i ≤ max_number) (rising v.members)) c.self.view_is
+    (All-rising (λ i. i ≤ max_number) c.self.inside.words.members c.self.invariant.0.numbers))

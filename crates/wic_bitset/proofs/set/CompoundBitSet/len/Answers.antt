@@ -2,6 +2,7 @@ use Rattle.std.proofs.Common.{ℕ, ◌<◌, ◌≤◌, length, length-append, sy
 use Rattle.std.specs.Prelude.{All}
 use Rattle.std.specs.List.{flat_map}
 use Rattle.std.proofs.lemmas.List.Elements.{All-head, All-tail}
+use Rattle.wic_bitset.specs.Compound.{max_capacity}
 use Rattle.wic_bitset.specs.Rising.{rising, word_members}
 use Rattle.wic_bitset.specs.Summary.{filled_words}
 use Rattle.wic_bitset.proofs.ByWordFacts.{by_words}
@@ -15,8 +16,8 @@ loop-k-init g c =
     let s = c.args.self.now.members in
     let filled = c.into_iter-k-iterator.ensures.into_iter_gives ∙ c.filled-k-items.ensures in
     let all = ap length (ap (flat_map (word_members w s)) filled ∙ by_words w s g.T.ScalarBitSetStorage.width_within.positive) in
-    let few = subst (λ v. length (rising v.members) ≤ 4294967296) c.self.view_is
-    (length-rising-le c.self.inside.words.members 4294967296 (λ i has. let h = c.self.invariant.0.numbers i has in omega arith)) in (
+    let few = subst (λ v. length (rising v.members) ≤ max_capacity) c.self.view_is
+    (length-rising-le c.self.inside.words.members max_capacity (λ i has. let h = c.self.invariant.0.numbers i has in omega arith)) in (
       omega (arith, all, length-rising s),
       (
         omega (arith, few, length-rising s),
