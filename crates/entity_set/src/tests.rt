@@ -1,4 +1,8 @@
-//! The worked examples, and the algebra beside sorted lists.
+//! The worked examples, and the algebra beside sorted lists. A set is lent to what tests it, so that few ways out of a function end
+//! one: that is quick to prove.
+ghost use Rattle.std.specs.Prelude.{◌≡◌};
+ghost use Rattle.std.specs.FinSet as fin_set;
+
 use crate::EntitySet;
 use crate::callers::{
     Block, absorb, follow, leave_for_a_while, move_greatest, restrict, walked_count,
@@ -10,13 +14,12 @@ use std::test::Fail;
 use wic_base::OutOfMemory;
 use wic_bitset::CompoundBitSet;
 
-// A set of the blocks of these numbers.
-fn set_of(alloc: Global, numbers: &[u32]) -> Result<EntitySet<Block>, OutOfMemory> {
-    let mut set = EntitySet::new(alloc);
+// Puts the blocks of these numbers in.
+fn put(set: &mut EntitySet<Block>, numbers: &[u32]) -> Result<(), OutOfMemory> {
     for number in numbers {
         set.insert(Block(*number))?;
     }
-    Ok(set)
+    Ok(())
 }
 
 // Whether the keys of a set have just these numbers, which ascend.
@@ -36,22 +39,44 @@ fn hash_of(set: &EntitySet<Block>) -> u64 {
     hasher.finish()
 }
 
-#[test]
-fn keys_are_put_in_and_walked_by_ascending_number(rt: HostRuntime) -> Result<(), Fail> {
-    let alloc = rt.alloc();
-    let mut set = EntitySet::with_capacity(alloc, 8)?;
+// Puts three keys in, and asks for room.
+fn keys_come(rt: &impl Abort, set: &mut EntitySet<Block>) -> Result<(), Fail> {
     assert!(rt; set.capacity() >= 8);
     for number in [5, 1, 700] {
         assert!(rt; set.insert(Block(number))?);
     }
     set.ensure_capacity(1000)?;
     assert!(rt; set.capacity() >= 1000);
-    assert!(rt; has_just(&set, &[1, 5, 700]));
-    let copy = set.try_clone(alloc)?;
-    assert!(rt; copy == set);
-    assert_eq!(rt; hash_of(&copy), hash_of(&set));
+    assert!(rt; has_just(set, &[1, 5, 700]));
+    Ok(())
+}
+
+// Takes the greatest key out of a set: it was equal to its copy until then.
+fn copy_stays(
+    rt: &impl Abort,
+    set: &mut EntitySet<Block>,
+    copy: &EntitySet<Block>,
+) -> Result<(), Fail> {
+    assert!(rt; *copy == *set);
+    assert_eq!(rt; hash_of(copy), hash_of(set));
     assert_eq!(rt; set.pop(), Some(Block(700)));
-    assert!(rt; copy != set);
+    assert!(rt; *copy != *set);
+    Ok(())
+}
+
+fn set_is_copied(rt: &impl Abort, alloc: Global, set: &mut EntitySet<Block>) -> Result<(), Fail> {
+    let copy = set.try_clone(alloc)?;
+    copy_stays(rt, set, &copy)
+}
+
+// Puts keys in, copies the set, and takes the keys out.
+fn keys_come_and_go(
+    rt: &impl Abort,
+    alloc: Global,
+    set: &mut EntitySet<Block>,
+) -> Result<(), Fail> {
+    keys_come(rt, set)?;
+    set_is_copied(rt, alloc, set)?;
     assert!(rt; !set.remove(Block(700)));
     assert_eq!(rt; set.len(), 2);
     set.clear();
@@ -60,59 +85,113 @@ fn keys_are_put_in_and_walked_by_ascending_number(rt: HostRuntime) -> Result<(),
 }
 
 #[test]
+fn keys_are_put_in_and_walked_by_ascending_number(rt: HostRuntime) -> Result<(), Fail> {
+    let alloc = rt.alloc();
+    let mut set = EntitySet::with_capacity(alloc, 8)?;
+    keys_come_and_go(&rt, alloc, &mut set)
+}
+
+// Joins two new sets, and takes from the one what a third set lacks and what a fourth has. All but the first are `other`.
+fn sets_are_joined(
+    rt: &impl Abort,
+    set: &mut EntitySet<Block>,
+    other: &mut EntitySet<Block>,
+) -> Result<(), Fail> {
+    put(set, &[1, 5])?;
+    put(other, &[5, 9])?;
+    assert!(rt; set.union_with(other)?);
+    assert!(rt; !set.union_with(other)?);
+    put(other, &[10])?;
+    assert!(rt; set.intersect_with(other));
+    assert!(rt; has_just(set, &[5, 9]));
+    other.clear();
+    put(other, &[9])?;
+    assert!(rt; set.subtract(other));
+    assert!(rt; has_just(set, &[5]));
+    Ok(())
+}
+
+#[test]
 fn sets_are_joined_met_and_parted(rt: HostRuntime) -> Result<(), Fail> {
     let alloc = rt.alloc();
-    let mut set = set_of(alloc, &[1, 5])?;
-    let other = set_of(alloc, &[5, 9])?;
-    assert!(rt; set.union_with(&other)?);
-    assert!(rt; !set.union_with(&other)?);
-    assert!(rt; set.intersect_with(&set_of(alloc, &[5, 9, 10])?));
-    assert!(rt; has_just(&set, &[5, 9]));
-    assert!(rt; set.subtract(&set_of(alloc, &[9])?));
-    assert!(rt; has_just(&set, &[5]));
+    let mut set = EntitySet::new(alloc);
+    let mut other = EntitySet::new(alloc);
+    sets_are_joined(&rt, &mut set, &mut other)
+}
+
+// Follows the jumps from block 2 with two new sets.
+fn jumps_are_followed(
+    rt: &impl Abort,
+    work: &mut EntitySet<Block>,
+    done: &mut EntitySet<Block>,
+) -> Result<(), Fail>
+    requires work { work.old.members ≡ fin_set.empty }
+    requires done { done.old.members ≡ fin_set.empty }
+{
+    let jumps = [2, 0, 3, 0, 1];
+    work.insert(Block(2))?;
+    follow(work, done, &jumps)?;
+    assert!(rt; work.is_empty());
+    assert!(rt; has_just(done, &[0, 2, 3]));
     Ok(())
 }
 
 #[test]
 fn a_worklist_is_followed_until_it_is_empty(rt: HostRuntime) -> Result<(), Fail> {
     let alloc = rt.alloc();
-    let jumps = [2, 0, 3, 0, 1];
     let mut work = EntitySet::new(alloc);
     let mut done = EntitySet::new(alloc);
-    work.insert(Block(2))?;
-    follow(&mut work, &mut done, &jumps)?;
-    assert!(rt; work.is_empty());
-    assert!(rt; has_just(&done, &[0, 2, 3]));
+    jumps_are_followed(&rt, &mut work, &mut done)
+}
+
+// Takes keys out of one new set, and puts their numbers into another.
+fn greatest_key_leaves(
+    rt: &impl Abort,
+    set: &mut EntitySet<Block>,
+    numbers: &mut CompoundBitSet<usize>,
+) -> Result<(), Fail> {
+    put(set, &[1, 700])?;
+    leave_for_a_while(set);
+    assert!(rt; has_just(set, &[1, 700]));
+    assert!(rt; move_greatest(set, numbers)?);
+    assert!(rt; has_just(set, &[1]));
+    assert!(rt; numbers.contains(700));
+    assert!(rt; move_greatest(set, numbers)?);
+    assert!(rt; !move_greatest(set, numbers)?);
     Ok(())
 }
 
 #[test]
 fn the_greatest_key_leaves_for_a_while_and_for_good(rt: HostRuntime) -> Result<(), Fail> {
     let alloc = rt.alloc();
-    let mut set = set_of(alloc, &[1, 700])?;
+    let mut set = EntitySet::new(alloc);
     let mut numbers = CompoundBitSet::new(alloc);
-    leave_for_a_while(&mut set);
-    assert!(rt; has_just(&set, &[1, 700]));
-    assert!(rt; move_greatest(&mut set, &mut numbers)?);
-    assert!(rt; has_just(&set, &[1]));
-    assert!(rt; numbers.contains(700));
-    assert!(rt; move_greatest(&mut set, &mut numbers)?);
-    assert!(rt; !move_greatest(&mut set, &mut numbers)?);
+    greatest_key_leaves(&rt, &mut set, &mut numbers)
+}
+
+// Joins a new set to another one, and restricts that to the first.
+fn set_is_joined_and_restricted(
+    rt: &impl Abort,
+    known: &mut EntitySet<Block>,
+    found: &mut EntitySet<Block>,
+) -> Result<(), Fail> {
+    put(known, &[1])?;
+    put(found, &[2, 3])?;
+    assert!(rt; absorb(known, found)?);
+    assert!(rt; !absorb(known, found)?);
+    assert_eq!(rt; walked_count(known), 3);
+    assert!(rt; restrict(known, found));
+    assert!(rt; !restrict(known, found));
+    assert_eq!(rt; walked_count(known), 2);
     Ok(())
 }
 
 #[test]
 fn a_set_is_joined_and_restricted_until_nothing_changes(rt: HostRuntime) -> Result<(), Fail> {
     let alloc = rt.alloc();
-    let mut known = set_of(alloc, &[1])?;
-    let found = set_of(alloc, &[2, 3])?;
-    assert!(rt; absorb(&mut known, &found)?);
-    assert!(rt; !absorb(&mut known, &found)?);
-    assert_eq!(rt; walked_count(&known), 3);
-    assert!(rt; restrict(&mut known, &found));
-    assert!(rt; !restrict(&mut known, &found));
-    assert_eq!(rt; walked_count(&known), 2);
-    Ok(())
+    let mut known = EntitySet::new(alloc);
+    let mut found = EntitySet::new(alloc);
+    set_is_joined_and_restricted(&rt, &mut known, &mut found)
 }
 
 // The next number of a plain generator of random numbers.
@@ -146,40 +225,111 @@ fn those(alloc: Global, numbers: &[u32], other: &[u32], has: bool) -> Result<Vec
     Ok(kept)
 }
 
-// The union of two sets, beside that of two sorted lists.
-fn joins(rt: &impl Abort, alloc: Global, left: &[u32], right: &[u32]) -> Result<(), Fail> {
-    let new = those(alloc, right, left, false)?;
+// Two ascending lists, and what is in either, in both, and in the first alone.
+#[derive(Drop)]
+struct Pair<'a> {
+    left: &'a [u32],
+    right: &'a [u32],
+    either: &'a [u32],
+    both: &'a [u32],
+    left_alone: &'a [u32],
+}
+
+// What two sets have in common.
+fn meets(
+    rt: &impl Abort,
+    set: &mut EntitySet<Block>,
+    other: &EntitySet<Block>,
+    pair: &Pair<'_>,
+) -> Result<(), Fail> {
+    put(set, pair.left)?;
+    assert_eq!(rt; set.is_disjoint(other), pair.both.is_empty());
+    assert_eq!(rt;
+        set.intersect_with(other),
+        pair.both.len() < pair.left.len()
+    );
+    assert!(rt; has_just(set, pair.both));
+    Ok(())
+}
+
+// What the first set has alone.
+fn parts(
+    rt: &impl Abort,
+    set: &mut EntitySet<Block>,
+    other: &EntitySet<Block>,
+    pair: &Pair<'_>,
+) -> Result<(), Fail> {
+    put(set, pair.left)?;
+    assert_eq!(rt; set.is_subset(other), pair.left_alone.is_empty());
+    assert_eq!(rt;
+        set.subtract(other),
+        pair.left_alone.len() < pair.left.len()
+    );
+    assert!(rt; has_just(set, pair.left_alone));
+    Ok(())
+}
+
+// The union of two sets.
+fn joins(
+    rt: &impl Abort,
+    set: &mut EntitySet<Block>,
+    other: &EntitySet<Block>,
+    pair: &Pair<'_>,
+) -> Result<(), Fail> {
+    put(set, pair.left)?;
+    assert_eq!(rt; set.union_with(other)?, pair.either.len() > pair.left.len());
+    assert!(rt; has_just(set, pair.either));
+    Ok(())
+}
+
+// All of a pair with two new sets. The union is the last, since it alone makes room.
+fn two_sets_are_tried(
+    rt: &impl Abort,
+    set: &mut EntitySet<Block>,
+    other: &mut EntitySet<Block>,
+    pair: &Pair<'_>,
+) -> Result<(), Fail> {
+    put(other, pair.right)?;
+    meets(rt, set, other, pair)?;
+    set.clear();
+    parts(rt, set, other, pair)?;
+    set.clear();
+    joins(rt, set, other, pair)
+}
+
+fn pair_is_tried(rt: &impl Abort, alloc: Global, pair: &Pair<'_>) -> Result<(), Fail> {
+    let mut set = EntitySet::new(alloc);
+    let mut other = EntitySet::new(alloc);
+    two_sets_are_tried(rt, &mut set, &mut other, pair)
+}
+
+// What is in either of two ascending lists, ascending.
+fn either_of(alloc: Global, left: &[u32], right: &[u32]) -> Result<Vec<u32>, AllocError> {
     let mut either = those(alloc, right, left, false)?;
     for number in left {
         either.push(*number)?;
     }
     either.sort()?;
-    let mut set = set_of(alloc, left)?;
-    assert_eq!(rt; set.union_with(&set_of(alloc, right)?)?, !new.is_empty());
-    assert!(rt; has_just(&set, &either));
-    Ok(())
+    Ok(either)
 }
 
-// What two sets have in common.
-fn meets(rt: &impl Abort, alloc: Global, left: &[u32], right: &[u32]) -> Result<(), Fail> {
+fn lists_are_tried(
+    rt: &impl Abort,
+    alloc: Global,
+    left: &[u32],
+    right: &[u32],
+) -> Result<(), Fail> {
+    let either = either_of(alloc, left, right)?;
     let both = those(alloc, left, right, true)?;
-    let mut set = set_of(alloc, left)?;
-    let other = set_of(alloc, right)?;
-    assert_eq!(rt; set.is_disjoint(&other), both.is_empty());
-    assert_eq!(rt; set.intersect_with(&other), both.len() < left.len());
-    assert!(rt; has_just(&set, &both));
-    Ok(())
-}
-
-// What the first set has alone.
-fn parts(rt: &impl Abort, alloc: Global, left: &[u32], right: &[u32]) -> Result<(), Fail> {
-    let alone = those(alloc, left, right, false)?;
-    let mut set = set_of(alloc, left)?;
-    let other = set_of(alloc, right)?;
-    assert_eq!(rt; set.is_subset(&other), alone.is_empty());
-    assert_eq!(rt; set.subtract(&other), alone.len() < left.len());
-    assert!(rt; has_just(&set, &alone));
-    Ok(())
+    let left_alone = those(alloc, left, right, false)?;
+    let pair = Pair {
+        left,
+        right,
+        either: &either,
+        both: &both,
+        left_alone: &left_alone,
+    };
+    pair_is_tried(rt, alloc, &pair)
 }
 
 #[test]
@@ -189,9 +339,7 @@ fn the_algebra_of_random_sets_is_that_of_sorted_lists(rt: HostRuntime) -> Result
     for _ in 0..2000 {
         let left = random_numbers(alloc, &mut seed)?;
         let right = random_numbers(alloc, &mut seed)?;
-        joins(&rt, alloc, &left, &right)?;
-        meets(&rt, alloc, &left, &right)?;
-        parts(&rt, alloc, &left, &right)?;
+        lists_are_tried(&rt, alloc, &left, &right)?;
     }
     Ok(())
 }

@@ -1,7 +1,0 @@
-use Rattle.std.proofs.Common.{arith}
-use Rattle.entity_set.proofs.KeysFacts.{below-empty, below-insert}
-use Rattle.entity_set.proofs.tests.a_worklist_is_followed_until_it_is_empty.Goals as goal
-
-pub follow-requires-clause-blocks : goal.follow-requires-clause-blocks
-follow-requires-clause-blocks g c =
-    below-insert 5 _ _ 2 (omega arith) c.in_ok-insert.ensures.members (below-empty 5 _ c.new-work.ensures.members)
