@@ -52,7 +52,8 @@ impl<K: EntityRef> EntitySet<K> {
         }
     }
 
-    /// The empty set with room for the keys whose numbers are below `n`, at most `MAX_CAPACITY` of wic_bitset. An `n` of 0 is never refused.
+    /// The empty set with room for the keys whose numbers are below `n`, at most `MAX_CAPACITY` of wic_bitset. An `n` of 0 is never
+    /// refused.
     pub fn with_capacity(alloc: Global, n: usize) -> Result<EntitySet<K>, OutOfMemory>
         requires within { n ≤ max_capacity }
         ensures members { IfOk result (λ set. set.members ≡ fin_set.empty) }
