@@ -22,7 +22,11 @@ pub(crate) fn wish_of(words: &TryVec<TryString>) -> Wish
 {
     match words.as_slice() {
         [] => Wish::Script,
-        [word, seed, count] => match seed_and_count(bytes_of(word), bytes_of(seed), bytes_of(count)) {
+        [word, seed, count] => match seed_and_count(
+            bytes_of(word),
+            bytes_of(seed),
+            bytes_of(count),
+        ) {
             Some((seed, count)) => Wish::Generated(seed, count),
             None => Wish::Usage,
         },
