@@ -1,4 +1,5 @@
 pub mod BackFacts
+pub mod CountFacts
 pub mod CourseFacts
 pub mod ListFacts
 pub mod ReadyFacts

@@ -3,6 +3,7 @@ pub mod Applied
 pub mod Back
 pub mod Batch
 pub mod Command
+pub mod Counts
 pub mod Course
 pub mod Laws
 pub mod Many

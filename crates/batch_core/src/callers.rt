@@ -8,7 +8,9 @@ ghost use Rattle.batch_core.specs.Workspace.{IsOom};
 
 use crate::answer::{Done, Refusal, ReserveRefusal};
 use crate::command::{Batch, Cause, Command};
-use crate::laws::{law_alloc_adds_one, law_back_in_two, law_larger_room, law_same_contents};
+use crate::laws::{
+    law_alloc_adds_one, law_back_in_two, law_counts_are_enough, law_larger_room, law_same_contents,
+};
 use crate::workspace::Workspace;
 use wic_vec::TryVec;
 
@@ -84,7 +86,7 @@ pub fn apply_one<T: Drop>(workspace: &mut Workspace<T>, batch: Batch<T>) -> Resu
     workspace.apply(batch)
 }
 
-// Holds a value by a batch of its own while there is room for one more: the batch fits, so memory doesn't refuse it.
+// Holds a value by a batch of its own while there is room for one more: by its counts the batch fits, so memory doesn't refuse it.
 pub fn hold_by_batch<T: Drop>(
     workspace: &mut Workspace<T>,
     batch: Batch<T>,
@@ -93,9 +95,7 @@ pub fn hold_by_batch<T: Drop>(
     requires room { len workspace.old.contents.live < workspace.old.room }
     ensures fits { IfErr result (λ r. ¬ IsOom r.cause) }
 {
-    law_alloc_adds_one::<T>();
-    // For the proof: the contents are sound.
-    let _ = workspace.mark();
+    law_counts_are_enough::<T>();
     workspace.apply(batch)
 }
 

@@ -11,8 +11,8 @@
 //!
 //! `callers::reserve_and_run` reserves and then applies each batch. It is proved: if each batch fits the room, the contents
 //! are those that the plain machine of `specs/` comes to. Single steps do the same with `mark` and `back_to`
-//! (`callers::keep_one_and_try_two`). The laws in [`laws`] tell what undoing gives, which rooms a batch fits, and what
-//! `same_contents` compares.
+//! (`callers::keep_one_and_try_two`). The laws in [`laws`] tell what undoing gives, which rooms a batch fits, which it fits by
+//! its counts alone (`callers::hold_by_batch`), and what `same_contents` compares.
 //!
 //! **Out of memory.** `step` and `apply` return `Oom`, `reserve` and `begin_records` an `OutOfMemory`, and the contents have
 //! not changed then. Reserve less, free something, or go on with smaller batches. Any other cause comes before an allocation
@@ -42,6 +42,9 @@ mod workspace;
 
 pub use answer::{Done, Refusal, ReserveRefusal};
 pub use command::{Batch, Cause, Command, End};
-pub use laws::{law_alloc_adds_one, law_back_in_two, law_larger_room, law_same_contents, law_undo};
+pub use laws::{
+    law_alloc_adds_one, law_back_in_two, law_counts_are_enough, law_larger_room, law_same_contents,
+    law_undo,
+};
 pub use record::Record;
 pub use workspace::Workspace;
