@@ -272,16 +272,16 @@ impl<T: Drop> Workspace<T> {
         let held = mem::replace(self, empty);
         let mut guard = Undo::new(held, |workspace: Workspace<T>| workspace.taken_back());
         if let Err(refusal) = guard.get_mut().run(commands) {
-            *self = Undo::roll_back(guard);
+            self.replace_by(Undo::roll_back(guard));
             return Err(refusal);
         }
         match end {
             End::Commit => {
-                *self = Undo::commit(guard);
+                self.replace_by(Undo::commit(guard));
                 Ok(Done::Committed)
             }
             End::Abort => {
-                *self = Undo::roll_back(guard);
+                self.replace_by(Undo::roll_back(guard));
                 Ok(Done::Aborted)
             }
         }
@@ -295,6 +295,13 @@ impl<T: Drop> Workspace<T> {
         ensures same { IsTrue result ↔ HaveSameContents T.eq self.now.contents other.now.contents }
     {
         self.store.same_contents(&other.store)
+    }
+
+    // The other workspace takes the place of this one, which is dropped.
+    fn replace_by(&mut self, other: Workspace<T>)
+        ensures other { self.new ≡ other }
+    {
+        *self = other;
     }
 
     // The workspace with all records undone, the newest first.
