@@ -11,7 +11,7 @@ use Rattle.batch_core.specs.State.{Contents}
 use Rattle.batch_core.specs.Command.{cause_of, effect_of}
 use Rattle.batch_core.specs.Course.{batch_course}
 use Rattle.batch_core.specs.Room.{cut_by, Passes, StaysWithin}
-use Rattle.batch_core.specs.Counts.{Counts, pushed_by, allocated_by, total_of, CannotPass, NoneCanPass, CountsAreEnough}
+use Rattle.batch_core.specs.Counts.{Counts, pushed_by, allocated_by, total_of, CannotPass, NoneCanPass, FitsByCounts, CountsAreEnough}
 use Rattle.batch_core.specs.declared.command.Command.{Command}
 use Rattle.batch_core.specs.declared.command.Command.TheVariants.{Push, Pop, Set, Alloc, Free, Put, Insert, Remove, Truncate}
 use Rattle.batch_core.proofs.BackFacts.{admitted}
@@ -100,8 +100,9 @@ module _ {X : Type 0} where
 
   -- a batch that fits a room by its counts fits it
   pub counts_are_enough : CountsAreEnough X
-  counts_are_enough room c batch fits =
+  counts_are_enough room c batch known is counted =
       let commands = batch.commands.items in
+      let fits = subst (FitsByCounts room c) (sym is) counted in
       let long = batch_course-length c commands in record {
         few = fits.0;
         within = subst (λ n. StaysWithin room n (batch_course c commands).stands) (sym long)

@@ -4,7 +4,7 @@ use Rattle.batch_core.specs.State.{Contents}
 use Rattle.batch_core.specs.Command.{cause_of}
 use Rattle.batch_core.specs.Course.{Stand}
 use Rattle.batch_core.specs.Room.{cut_by, Passes, StaysWithin}
-use Rattle.batch_core.specs.Many.{FitsLargerRooms}
+use Rattle.batch_core.specs.Many.{FitsLargerRoomsOver}
 use Rattle.batch_core.specs.declared.command.Command.{Command}
 use Rattle.batch_core.specs.declared.command.Command.TheVariants.{Push, Pop, Set, Alloc, Free, Put, Insert, Remove, Truncate}
 use Rattle.batch_core.proofs.CourseFacts.{if_none_more}
@@ -34,7 +34,7 @@ module _ {X : Type 0} where
       )) within
 
   -- what fits a room fits each larger room
-  pub fits_larger : FitsLargerRooms X
+  pub fits_larger : FitsLargerRoomsOver X
   fits_larger room larger places stands more fits = record {
     few = omega (arith, fits.few, more);
     within = within_larger room larger (length stands) stands more fits.within;

@@ -1,5 +1,5 @@
 -- Batches that fit a room by their counts alone: a caller needs no course to see it.
-use Rattle.std.specs.Prelude.{⊤, ℕ, ◌+◌, ◌<◌, ◌≤◌, List, [], ◌∷◌, length}
+use Rattle.std.specs.Prelude.{⊤, ◌≡◌, ℕ, ◌+◌, ◌<◌, ◌≤◌, List, [], ◌∷◌, length}
 use Rattle.std.specs.FinMap.{len}
 use Rattle.batch_core.specs.State.{Contents}
 use Rattle.batch_core.specs.Course.{course_of, places_of}
@@ -51,13 +51,13 @@ module _ {T : Type 0} where
   NoneCanPass room counts [] = ⊤
   NoneCanPass room counts (command ∷ commands) = CannotPass room counts command × NoneCanPass room counts commands
 
-  -- by its counts the batch fits the room
-  abbrev pub FitsByCounts : ℕ → Contents T → Batch T → Type 0
-  FitsByCounts room contents batch =
-      (places_of batch ≤ room) × NoneCanPass room (counts_of contents batch.commands.items) batch.commands.items
+  -- by its counts the batch of these commands fits the room
+  abbrev pub FitsByCounts : ℕ → Contents T → List (Command T) → Type 0
+  FitsByCounts room contents commands = (length commands ≤ room) × NoneCanPass room (counts_of contents commands) commands
 
--- a batch that fits a room by its counts fits it
+-- a batch of these commands that fits a room by its counts fits it
 abbrev pub CountsAreEnough : Type 0 → Type 0
 CountsAreEnough T =
-    (room : ℕ) (contents : Contents T) (batch : Batch T)
-    → FitsByCounts room contents batch → Fits room (places_of batch) (course_of contents batch).stands
+    (room : ℕ) (contents : Contents T) (batch : Batch T) (commands : List (Command T))
+    → batch.commands.items ≡ commands → FitsByCounts room contents commands
+    → Fits room (places_of batch) (course_of contents batch).stands

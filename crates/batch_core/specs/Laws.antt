@@ -1,9 +1,10 @@
 -- The laws of going back, of allocations, and of workspaces with the same contents.
-use Rattle.std.specs.Prelude.{◌≡◌, ◌↔◌, ℕ, ◌+◌, ◌≤◌, Bool, List, None, take, IsTrue}
+use Rattle.std.specs.Prelude.{◌≡◌, ◌↔◌, ℕ, ◌+◌, ◌≤◌, Bool, List, None, length, take, IsTrue}
 use Rattle.std.specs.FinMap.{len}
 use Rattle.batch_core.specs.State.{Contents, IsSound}
 use Rattle.batch_core.specs.Command.{cause_of, effect_of, records_of}
 use Rattle.batch_core.specs.Back.{undo_all, back}
+use Rattle.batch_core.specs.Course.{batch_course}
 use Rattle.batch_core.specs.Same.{HaveSameContents}
 use Rattle.batch_core.specs.declared.command.Command.{Command}
 use Rattle.batch_core.specs.declared.command.Command.TheVariants.{Alloc}
@@ -23,6 +24,11 @@ GoingBackInTwo T =
     → early ≤ late
     → (back (back contents records late) (take late records) early ≡ back contents records early)
     × (take early (take late records) ≡ take early records)
+
+-- the course of a batch has one stand per command
+abbrev pub EachCommandStandsOnce : Type 0 → Type 0
+EachCommandStandsOnce T =
+    (contents : Contents T) (commands : List (Command T)) → length (batch_course contents commands).stands ≡ length commands
 
 -- on sound contents an admitted allocation raises the number of live ids by one
 abbrev pub AllocationAddsOne : Type 0 → Type 0

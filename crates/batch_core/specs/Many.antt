@@ -22,7 +22,14 @@ module _ {T : Type 0} where
   AllFit room contents (batch ∷ batches) =
       Fits room (places_of batch) (course_of contents batch).stands × AllFit room (contents_after_one contents batch) batches
 
--- what fits a room fits every larger one
+-- what fits a room fits every larger one, whatever has this course
+abbrev pub FitsLargerRoomsOver : Type 0 → Type 0
+FitsLargerRoomsOver T =
+    (room larger places : ℕ) (stands : List (Stand T)) → room ≤ larger → Fits room places stands → Fits larger places stands
+
+-- a batch that fits a room fits every larger one
 abbrev pub FitsLargerRooms : Type 0 → Type 0
 FitsLargerRooms T =
-    (room larger places : ℕ) (stands : List (Stand T)) → room ≤ larger → Fits room places stands → Fits larger places stands
+    (room larger : ℕ) (contents : Contents T) (batch : Batch T) → room ≤ larger
+    → Fits room (places_of batch) (course_of contents batch).stands
+    → Fits larger (places_of batch) (course_of contents batch).stands

@@ -1,15 +1,22 @@
 //! Callers of a workspace, proved from its contracts and laws alone.
-ghost use Rattle.std.specs.Prelude.{◌≡◌, ◌<◌, ◌≤◌, ◌++◌, ◌∷◌, [], length, IfErr, IsOk, IsTrue, OnOk};
+ghost use Rattle.std.specs.Prelude.{◌≡◌, ◌<◌, ◌≤◌, ◌++◌, ◌∷◌, [], length, IfErr, IsOk, IsTrue, Ok, OnOk};
 ghost use Rattle.std.specs.FinMap.{len};
 ghost use Rattle.batch_core.specs.Back.{back};
 ghost use Rattle.batch_core.specs.Command.{effect_of, records_of};
+ghost use Rattle.batch_core.specs.Course.{course_of, places_of};
 ghost use Rattle.batch_core.specs.Many.{contents_after_all, AllFit};
+ghost use Rattle.batch_core.specs.Room.{Fits};
+ghost use Rattle.batch_core.specs.State.{no_contents};
 ghost use Rattle.batch_core.specs.Workspace.{IsOom};
+ghost use Rattle.batch_core.specs.declared.answer.Done.{Done};
+ghost use Rattle.batch_core.specs.declared.command.Command.{Command};
+ghost use Rattle.batch_core.specs.declared.command.End.{End};
 
 use crate::answer::{Done, Refusal, ReserveRefusal};
 use crate::command::{Batch, Cause, Command};
 use crate::laws::{
-    law_alloc_adds_one, law_back_in_two, law_counts_are_enough, law_larger_room, law_same_contents,
+    law_alloc_adds_one, law_back_in_two, law_counts_are_enough, law_course_length, law_larger_room,
+    law_same_contents,
 };
 use crate::workspace::Workspace;
 use wic_vec::TryVec;
@@ -97,6 +104,47 @@ pub fn hold_by_batch<T: Drop>(
 {
     law_counts_are_enough::<T>();
     workspace.apply(batch)
+}
+
+// Applies a batch that was planned for a smaller room than there is: memory doesn't refuse it.
+pub fn apply_planned<T: Drop>(
+    workspace: &mut Workspace<T>,
+    batch: Batch<T>,
+    planned: u64,
+) -> Result<Done, Refusal>
+    requires larger { planned ≤ workspace.old.room }
+    requires fits { Fits planned (places_of batch)
+        (course_of workspace.old.contents batch).stands }
+    ensures never_oom { IfErr result (λ r. ¬ IsOom r.cause) }
+{
+    law_larger_room::<T>();
+    workspace.apply(batch)
+}
+
+// Pushes two values, cuts the list to one, and gives all up, in a workspace that holds nothing and has room for four: this is never
+// refused, and leaves nothing.
+pub fn push_cut_and_abort(
+    workspace: &mut Workspace<u64>,
+    batch: Batch<u64>,
+) -> Result<Done, Refusal>
+    requires known { workspace.old.contents ≡ no_contents }
+    requires room { 4 ≤ workspace.old.room }
+    requires commands { batch.commands.items
+        ≡ Command.Push 1 ∷ Command.Push 2 ∷ Command.Truncate 1 ∷ [] }
+    requires aborts { batch.end ≡ End.Abort }
+    ensures aborted { result ≡ Ok Done.Aborted }
+    ensures nothing_left { workspace.new.contents ≡ no_contents }
+{
+    law_counts_are_enough::<u64>();
+    workspace.apply(batch)
+}
+
+// How many stands the course of a batch has.
+pub fn stands_of_course<T: Drop>(workspace: &Workspace<T>, batch: &Batch<T>) -> usize
+    ensures stands { result ≡ length (course_of workspace.now.contents batch.now).stands }
+{
+    law_course_length::<T>();
+    batch.commands.len()
 }
 
 // Whether two workspaces of numbers have the same contents: then their lists are equal.

@@ -1,8 +1,8 @@
 //! Laws over the definitions that the contracts of `Workspace` cite. The calls of this module do nothing.
 ghost use Rattle.batch_core.specs.Counts.{CountsAreEnough};
 ghost use Rattle.batch_core.specs.Laws.{UndoingGoesBack, GoingBackInTwo};
-ghost use Rattle.batch_core.specs.Laws.{AllocationAddsOne, SameContentsAreEqual};
-ghost use Rattle.batch_core.specs.Many.{FitsLargerRooms};
+ghost use Rattle.batch_core.specs.Laws.{AllocationAddsOne, EachCommandStandsOnce, SameContentsAreEqual};
+ghost use Rattle.batch_core.specs.Many.{FitsLargerRooms, FitsLargerRoomsOver};
 
 /// Undoing the records of an admitted command, the newest first, on the contents after it gives the contents before it:
 /// list, set, live values and the order of all later ids. The contracts of `Workspace::step` and `Workspace::back_to` tie
@@ -12,8 +12,15 @@ pub fn law_undo<T>()
 {}
 
 /// A batch that fits a room fits every larger one, so that what was planned for one reservation may run within a greater one.
+/// The clause `courses` says the same of whatever has a course, as a nest has.
 pub fn law_larger_room<T>()
-    ensures { FitsLargerRooms T }
+    ensures batches { FitsLargerRooms T }
+    ensures courses { FitsLargerRoomsOver T }
+{}
+
+/// The course of a batch has one stand per command: so what is said of its stands by their number is said of its commands.
+pub fn law_course_length<T>()
+    ensures { EachCommandStandsOnce T }
 {}
 
 /// A batch fits a room by its counts alone, so that a caller knows before it begins which room is enough. It does, if

@@ -43,8 +43,8 @@ mod workspace;
 pub use answer::{Done, Refusal, ReserveRefusal};
 pub use command::{Batch, Cause, Command, End};
 pub use laws::{
-    law_alloc_adds_one, law_back_in_two, law_counts_are_enough, law_larger_room, law_same_contents,
-    law_undo,
+    law_alloc_adds_one, law_back_in_two, law_counts_are_enough, law_course_length, law_larger_room,
+    law_same_contents, law_undo,
 };
 pub use record::Record;
 pub use workspace::Workspace;

@@ -12,6 +12,7 @@ ghost use Rattle.batch_core.specs.State.{no_contents, IsSound};
 ghost use Rattle.batch_core.specs.Room.{Fits};
 ghost use Rattle.batch_core.specs.Same.{HaveSameContents};
 ghost use Rattle.batch_core.specs.Workspace.{IsOom, IsReady, IsDone, IsKept, IsCauseOf, KeepsWithin};
+ghost use Rattle.batch_core.specs.declared.command.End.{End};
 
 use crate::answer::{Done, Refusal, ReserveRefusal};
 use crate::command::{Batch, Cause, Command, End};
@@ -257,34 +258,72 @@ impl<T: Drop> Workspace<T> {
         ensures never_refused_within { Fits self.old.room (places_of batch)
             (course_of self.old.contents batch).stands
             → first_bad (course_of self.old.contents batch).stands ≡ None → IsOk result }
+        ensures refusal_leaves { OnErr result (self.new.contents ≡ self.old.contents) }
+        ensures abort_leaves { batch.end ≡ End.Abort → self.new.contents ≡ self.old.contents }
         ensures back { back self.new.contents self.new.records 0 ≡ self.old.contents }
         ensures room { self.new.room ≡ self.old.room }
         ensures grows { Grows self.old.capacities self.new.capacities }
     {
-        let Batch { commands, end } = batch;
-        if let Err(oom) = self.begin_records(commands.len()) {
+        if let Err(oom) = self.begin_records(batch.commands.len()) {
             return Err(Refusal {
                 cause: Cause::Oom(oom),
                 at: 0,
             });
         }
-        let empty = Workspace::new(self.alloc);
-        let held = mem::replace(self, empty);
+        self.apply_begun(batch)
+    }
+
+    // Does a batch for whose records there is room, whole or not at all. It is done under guard, while an empty workspace
+    // stands in this place.
+    fn apply_begun(&mut self, batch: Batch<T>) -> Result<Done, Refusal>
+        requires fresh { self.old.records ≡ [] }
+        requires room { places_of batch ≤ self.old.capacities.records }
+        ensures applied { IsApplied self.old (places_of batch)
+            (course_of self.old.contents batch) batch.end result self.new }
+        ensures at_from_one { IfErr result (λ r. 1 ≤ r.at) }
+        ensures at_within { IfErr result (λ r. r.at ≤ length batch.commands.items) }
+        ensures never_oom_within { Fits self.old.room (places_of batch)
+            (course_of self.old.contents batch).stands
+            → IfErr result (λ r. ¬ IsOom r.cause) }
+        ensures never_refused_within { Fits self.old.room (places_of batch)
+            (course_of self.old.contents batch).stands
+            → first_bad (course_of self.old.contents batch).stands ≡ None → IsOk result }
+        ensures refusal_leaves { OnErr result (self.new.contents ≡ self.old.contents) }
+        ensures abort_leaves { batch.end ≡ End.Abort → self.new.contents ≡ self.old.contents }
+        ensures back { back self.new.contents self.new.records 0 ≡ self.old.contents }
+        ensures room { self.new.room ≡ self.old.room }
+        ensures grows { Grows self.old.capacities self.new.capacities }
+    {
+        let Batch { commands, end } = batch;
+        let held = self.taken_out();
         let mut guard = Undo::new(held, |workspace: Workspace<T>| workspace.taken_back());
-        if let Err(refusal) = guard.get_mut().run(commands) {
-            self.replace_by(Undo::roll_back(guard));
-            return Err(refusal);
-        }
-        match end {
-            End::Commit => {
-                self.replace_by(Undo::commit(guard));
-                Ok(Done::Committed)
-            }
-            End::Abort => {
-                self.replace_by(Undo::roll_back(guard));
-                Ok(Done::Aborted)
-            }
-        }
+        let given_up = match guard.get_mut().run(commands) {
+            Err(refusal) => Err(refusal),
+            Ok(()) => match end {
+                End::Abort => Ok(Done::Aborted),
+                End::Commit => {
+                    self.take_in(Undo::commit(guard));
+                    return Ok(Done::Committed);
+                }
+            },
+        };
+        self.take_in(Undo::roll_back(guard));
+        given_up
+    }
+
+    // This workspace. An empty one, which allocates nothing, takes its place.
+    fn taken_out(&mut self) -> Workspace<T>
+        ensures held { result ≡ self.old }
+    {
+        let empty = Workspace::new(self.alloc);
+        mem::replace(self, empty)
+    }
+
+    // The other workspace takes the place of this one, which is empty: there is nothing to drop.
+    fn take_in(&mut self, other: Workspace<T>)
+        ensures other { self.new ≡ other }
+    {
+        mem::forget(mem::replace(self, other));
     }
 
     /// Whether both workspaces have the same contents: equal lists, sets of the same members, and tables with the same live ids
@@ -295,13 +334,6 @@ impl<T: Drop> Workspace<T> {
         ensures same { IsTrue result ↔ HaveSameContents T.eq self.now.contents other.now.contents }
     {
         self.store.same_contents(&other.store)
-    }
-
-    // The other workspace takes the place of this one, which is dropped.
-    fn replace_by(&mut self, other: Workspace<T>)
-        ensures other { self.new ≡ other }
-    {
-        *self = other;
     }
 
     // The workspace with all records undone, the newest first.

@@ -16,10 +16,9 @@ loop-batch-preserved g c =
     let short = ap length steps.0 in
     let fit = subst (AllFit c.args.n old.contents) steps.0 inv.fit in
     let course = course_of old.contents batch in
-    let places = places_of batch in
-    let fits = c.law_larger_room.ensures c.args.n old.room places course.stands inv.room fit.0 in
+    let fits = c.law_larger_room.ensures.batches c.args.n old.room old.contents batch inv.room fit.0 in
     let comes : new.contents ≡ contents_after_one old.contents batch =
-    applied_contents old new places course batch.end c.apply.result c.apply.ensures.applied (c.apply.ensures.never_oom_within fits) in
+    applied_contents old new (places_of batch) course batch.end c.apply.result c.apply.ensures.applied (c.apply.ensures.never_oom_within fits) in
     record {
       room = omega (arith, inv.room, c.apply.ensures.room);
       fit = subst (λ k. AllFit c.args.n k rest) (sym comes) fit.1;
