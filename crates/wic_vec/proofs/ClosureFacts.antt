@@ -1,6 +1,6 @@
 -- The run of a closure, from what std says of the calls.
 use Rattle.std.proofs.Common.{◌≡◌, ◌-◌, ℕ, arith, zero, suc, Bool, true, false, List, [], ◌∷◌, ◌++◌, length}
-use Rattle.std.proofs.Common.{length-append, length-take, take, map, replicate, refl, sym, ap, subst, ◌∙◌, filter, Result, Ok, OnOk}
+use Rattle.std.proofs.Common.{length-append, length-take, take, map, replicate, refl, ap, subst, ◌∙◌, filter, Result, Ok, OnOk}
 use Rattle.std.specs.List.{items_where_true, FoldsTo, AppendsResults}
 use Rattle.std.specs.List.Retain.{ReturnsInTurn, IsFiltered, RetainsInTurn}
 use Rattle.wic_vec.specs.ClosureRun.{ClosureRun, Retains, RetainsMut, AppendsAnswers, answers_and_leaves, left_where_true}

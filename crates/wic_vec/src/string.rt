@@ -49,10 +49,10 @@ impl TryString {
         }
     }
 
-    /// The empty text with room for at least `capacity` bytes. A capacity of 0 is never refused.
+    /// The empty text with room for exactly `capacity` bytes. A capacity of 0 is never refused.
     pub fn with_capacity(alloc: Global, capacity: usize) -> Result<TryString, OutOfMemory>
         ensures empty { IfOk result (λ s. s.bytes ≡ []) }
-        ensures capacity { IfOk result (λ s. capacity ≤ s.capacity) }
+        ensures capacity { IfOk result (λ s. s.capacity ≡ capacity) }
         ensures zero_never_refused { capacity ≡ 0 → IsOk result }
     {
         match String::with_capacity(alloc, capacity) {
@@ -61,11 +61,12 @@ impl TryString {
         }
     }
 
-    /// A new text with the characters of `s`. It allocates once.
+    /// A new text with the characters of `s`, and room for no more. It allocates once.
     pub fn try_from_str(alloc: Global, s: &str) -> Result<TryString, OutOfMemory>
         ensures text { IfOk result (λ text. text.bytes ≡ s.now) }
+        ensures capacity { IfOk result (λ text. text.capacity ≡ length s.now) }
     {
-        let mut text = TryString::new(alloc);
+        let mut text = TryString::with_capacity(alloc, s.len())?;
         text.push_str(s)?;
         Ok(text)
     }

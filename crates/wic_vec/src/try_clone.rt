@@ -1,5 +1,5 @@
 //! Copies of values, if there is memory for them.
-ghost use Rattle.std.specs.Prelude.{⊤, ◌≡◌, IsOk, IfOk, IfSome, MatchResult};
+ghost use Rattle.std.specs.Prelude.{⊤, ◌≡◌, length, IsOk, IfOk, IfSome, MatchResult};
 ghost use Rattle.std.specs.List.{AllZip};
 ghost use Rattle.wic_vec.specs.Same.{SameOption, SameResult};
 
@@ -63,20 +63,26 @@ impl<T: TryClone> TryClone for Box<T> {
     }
 }
 
-/// A copy has as many elements, each with the same content as the one at its place.
+/// A copy has as many elements, each with the same content as the one at its place, and room for no more.
 impl<T: TryClone> TryClone for TryVec<T> {
     ghost same = { λ a b. AllZip T.same a.items b.items };
 
-    fn try_clone(&self, alloc: Global) -> Result<TryVec<T>, OutOfMemory> {
+    fn try_clone(&self, alloc: Global) -> Result<TryVec<T>, OutOfMemory>
+        ensures same { IfOk result (λ copy. AllZip T.same self.now.items copy.items) }
+        ensures capacity { IfOk result (λ copy. copy.capacity ≡ length self.now.items) }
+    {
         TryVec::from_clones(alloc, self.as_slice())
     }
 }
 
-/// A copy is the same text.
+/// A copy is the same text, with room for no more.
 impl TryClone for TryString {
     ghost same = { λ a b. a.bytes ≡ b.bytes };
 
-    fn try_clone(&self, alloc: Global) -> Result<TryString, OutOfMemory> {
+    fn try_clone(&self, alloc: Global) -> Result<TryString, OutOfMemory>
+        ensures same { IfOk result (λ copy. self.now.bytes ≡ copy.bytes) }
+        ensures capacity { IfOk result (λ copy. copy.capacity ≡ length self.now.bytes) }
+    {
         TryString::try_from_str(alloc, self.as_str())
     }
 }

@@ -57,10 +57,10 @@ impl<T> TryVec<T> {
         }
     }
 
-    /// The empty vector with room for at least `capacity` elements. A capacity of 0 is never refused.
+    /// The empty vector with room for exactly `capacity` elements. A capacity of 0 is never refused.
     pub fn with_capacity(alloc: Global, capacity: usize) -> Result<TryVec<T>, OutOfMemory>
         ensures empty { IfOk result (λ v. v.items ≡ []) }
-        ensures capacity { IfOk result (λ v. capacity ≤ v.capacity) }
+        ensures capacity { IfOk result (λ v. v.capacity ≡ capacity) }
         ensures zero_never_refused { capacity ≡ 0 → IsOk result }
     {
         match Vec::with_capacity(alloc, capacity) {

@@ -30,16 +30,34 @@ fn texts_have_the_room_that_was_asked_for(rt: HostRuntime) -> Result<(), Fail> {
     Ok(())
 }
 
-// How often the capacity changes while a thousand letters are pushed, each after room for one was made or not.
-fn growths(alloc: Global, reserves: bool) -> Result<u32, OutOfMemory> {
+// A call that makes a text longer by one letter, or makes room for one.
+#[derive(Clone, Copy, Debug)]
+enum Growth {
+    Push,
+    PushStr,
+    Reserve,
+    PushDecimal,
+}
+
+fn grow_by_one(text: &mut TryString, call: Growth) -> Result<(), OutOfMemory> {
+    match call {
+        Growth::Push => text.push('x'),
+        Growth::PushStr => text.push_str("x"),
+        Growth::Reserve => {
+            text.reserve(1)?;
+            text.push_str("x")
+        }
+        Growth::PushDecimal => text.push_decimal(7),
+    }
+}
+
+// How often the capacity changes in a thousand such calls.
+fn growths(alloc: Global, call: Growth) -> Result<u32, OutOfMemory> {
     let mut text = TryString::new(alloc);
     let mut changes = 0u32;
     for _ in 0..1000 {
         let before = text.capacity();
-        if reserves {
-            text.reserve(1)?;
-        }
-        text.push_str("x")?;
+        grow_by_one(&mut text, call)?;
         if text.capacity() != before {
             changes = changes.saturating_add(1);
         }
@@ -48,9 +66,15 @@ fn growths(alloc: Global, reserves: bool) -> Result<u32, OutOfMemory> {
 }
 
 #[test]
-fn a_thousand_pushes_grow_a_text_few_times(rt: HostRuntime) -> Result<(), Fail> {
-    assert!(rt; growths(rt.alloc(), false)? <= 12);
-    assert!(rt; growths(rt.alloc(), true)? <= 12);
+fn a_thousand_small_growths_of_a_text_take_few_allocations(rt: HostRuntime) -> Result<(), Fail> {
+    for call in [
+        Growth::Push,
+        Growth::PushStr,
+        Growth::Reserve,
+        Growth::PushDecimal,
+    ] {
+        assert!(rt; growths(rt.alloc(), call)? <= 12, "{call:?}");
+    }
     Ok(())
 }
 
@@ -61,12 +85,15 @@ fn the_block_of_a_text_is_as_large_as_was_asked_for(rt: HostRuntime) -> Result<(
     text.push_str("sixteen letters!")?;
     text.reserve_exact(1)?;
     assert_eq!(rt; text.capacity(), 17);
+    assert_eq!(rt; text.try_clone(alloc)?.into_string().capacity(), 16);
     let kept = text.into_string();
     assert_eq!(rt; kept.capacity(), 17);
     let mut text = TryString::from_string(kept);
     assert_eq!(rt; text.capacity(), 17);
     text.shrink_to_fit()?;
     assert_eq!(rt; text.into_string().capacity(), 16);
+    let text = TryString::try_from_str(alloc, "é!")?;
+    assert_eq!(rt; text.into_string().capacity(), 3);
     Ok(())
 }
 

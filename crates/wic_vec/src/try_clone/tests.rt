@@ -1,7 +1,8 @@
-ghost use Rattle.std.specs.Prelude.{◌≡◌, IsOk, IfOk};
+ghost use Rattle.std.specs.Prelude.{⊤, ◌≡◌, IsOk, IfOk};
 
 use super::*;
 use crate::try_new;
+use std::cell::Cell;
 use std::test::Fail;
 
 // What a bound tells its user: the content is the same, and numbers are never refused.
@@ -46,5 +47,44 @@ fn a_list_of_texts_has_an_equal_copy(rt: HostRuntime) -> Result<(), Fail> {
     assert!(rt; copies == texts);
     let text = format!(in alloc; "{copies:?}")?;
     assert_eq!(rt; text.as_str(), "[\"a\", \"b\"]");
+    Ok(())
+}
+
+// A value that counts how often it was copied.
+#[derive(Drop)]
+struct Counted<'a> {
+    copies: &'a Cell<u32>,
+}
+
+impl<'a> TryClone for Counted<'a> {
+    ghost same = { λ _ _. ⊤ };
+
+    fn try_clone(&self, _alloc: Global) -> Result<Self, OutOfMemory> {
+        self.copies.set(self.copies.get().wrapping_add(1));
+        Ok(Counted {
+            copies: self.copies,
+        })
+    }
+}
+
+#[test]
+fn each_part_is_copied_once(rt: HostRuntime) -> Result<(), Fail> {
+    let alloc = rt.alloc();
+    let cell = Cell::new(0);
+    let one = || Counted { copies: &cell };
+    copy_of(alloc, &Some(one()))?;
+    assert_eq!(rt; cell.replace(0), 1, "an option");
+    let _copy = copy_of(alloc, &Ok::<Counted<'_>, u8>(one()))?;
+    assert_eq!(rt; cell.replace(0), 1, "an Ok");
+    let _copy = copy_of(alloc, &Err::<u8, Counted<'_>>(one()))?;
+    assert_eq!(rt; cell.replace(0), 1, "an Err");
+    copy_of(alloc, &try_new::<Box<Counted<'_>>>(alloc, one())?)?;
+    assert_eq!(rt; cell.replace(0), 1, "a box");
+    copy_of(alloc, &(one(), one(), one(), one(), one(), one()))?;
+    assert_eq!(rt; cell.replace(0), 6, "a tuple");
+    let three = TryVec::from_elem(alloc, one(), 3)?;
+    assert_eq!(rt; cell.replace(0), 2, "a vector of one value");
+    copy_of(alloc, &three)?;
+    assert_eq!(rt; cell.replace(0), 3, "a vector");
     Ok(())
 }

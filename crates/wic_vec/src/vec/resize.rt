@@ -10,19 +10,21 @@ use std::alloc::Global;
 use wic_base::OutOfMemory;
 
 impl<T: TryClone> TryVec<T> {
-    /// A vector of `len` elements: copies of `elem`, and `elem` itself last.
+    /// A vector of `len` elements: copies of `elem`, and `elem` itself last. It has room for no more.
     pub fn from_elem(alloc: Global, elem: T, len: usize) -> Result<TryVec<T>, OutOfMemory>
         requires { 1 ≤ len }
         ensures items { IfOk result (λ v. FillsUp T.same elem len [] v.items) }
+        ensures capacity { IfOk result (λ v. v.capacity ≡ len) }
     {
-        let mut v = TryVec::new(alloc);
+        let mut v = TryVec::with_capacity(alloc, len)?;
         v.resize(len, elem)?;
         Ok(v)
     }
 
-    /// A vector of copies of `items`, in order.
+    /// A vector of copies of `items`, in order, and room for no more.
     pub fn from_clones(alloc: Global, items: &[T]) -> Result<TryVec<T>, OutOfMemory>
         ensures same { IfOk result (λ v. AllZip T.same items.now v.items) }
+        ensures capacity { IfOk result (λ v. v.capacity ≡ length items.now) }
     {
         let mut copies = TryVec::with_capacity(alloc, items.len())?;
         for item in items {

@@ -2,6 +2,7 @@ ghost use Rattle.std.specs.Prelude.{◌≡◌, ◌<◌, ◌≤◌, length, rever
 ghost use Rattle.std.specs.List.{All, remove_range};
 
 use super::*;
+use crate::TryClone;
 use crate::callers::{
     counted, fill_up, keep_all, keep_fewer, keep_none, overwrite, push_two, write_everywhere,
 };
@@ -233,16 +234,37 @@ fn a_shrink_gives_back_all_room_but_that_of_the_elements(rt: HostRuntime) -> Res
     Ok(())
 }
 
-// How often the capacity changes while a thousand numbers are pushed, each after room for one was made or not.
-fn growths(alloc: Global, reserves: bool) -> Result<u32, OutOfMemory> {
+// A call that makes a vector longer by one number, or makes room for one.
+#[derive(Clone, Copy, Debug)]
+enum Growth {
+    Push,
+    Reserve,
+    Extend,
+    Resize,
+    ResizeWith,
+}
+
+fn grow_by_one(v: &mut TryVec<u32>, call: Growth) -> Result<(), OutOfMemory> {
+    let longer = v.len().saturating_add(1);
+    match call {
+        Growth::Push => v.push(7),
+        Growth::Reserve => {
+            v.reserve(1)?;
+            v.push(7)
+        }
+        Growth::Extend => v.extend_from_slice(&[7]),
+        Growth::Resize => v.resize(longer, 7),
+        Growth::ResizeWith => v.resize_with(longer, || 7),
+    }
+}
+
+// How often the capacity changes in a thousand such calls.
+fn growths(alloc: Global, call: Growth) -> Result<u32, OutOfMemory> {
     let mut v = TryVec::new(alloc);
     let mut changes = 0u32;
-    for number in 0..1000u32 {
+    for _ in 0..1000 {
         let before = v.capacity();
-        if reserves {
-            v.reserve(1)?;
-        }
-        v.push(number)?;
+        grow_by_one(&mut v, call)?;
         if v.capacity() != before {
             changes = changes.saturating_add(1);
         }
@@ -251,9 +273,33 @@ fn growths(alloc: Global, reserves: bool) -> Result<u32, OutOfMemory> {
 }
 
 #[test]
-fn a_thousand_pushes_grow_few_times(rt: HostRuntime) -> Result<(), Fail> {
-    assert!(rt; growths(rt.alloc(), false)? <= 12);
-    assert!(rt; growths(rt.alloc(), true)? <= 12);
+fn a_thousand_small_growths_take_few_allocations(rt: HostRuntime) -> Result<(), Fail> {
+    for call in [
+        Growth::Push,
+        Growth::Reserve,
+        Growth::Extend,
+        Growth::Resize,
+        Growth::ResizeWith,
+    ] {
+        assert!(rt; growths(rt.alloc(), call)? <= 12, "{call:?}");
+    }
+    Ok(())
+}
+
+#[test]
+fn the_block_of_a_copy_is_as_large_as_its_elements(rt: HostRuntime) -> Result<(), Fail> {
+    let alloc = rt.alloc();
+    let mut roomy = TryVec::with_capacity(alloc, 100)?;
+    for number in [1, 2, 3] {
+        roomy.push(number)?;
+    }
+    for copy in [
+        TryVec::from_clones(alloc, roomy.as_slice())?,
+        TryVec::from_elem(alloc, 7u32, 3)?,
+        roomy.try_clone(alloc)?,
+    ] {
+        assert_eq!(rt; copy.into_vec().capacity(), 3);
+    }
     Ok(())
 }
 
@@ -385,8 +431,9 @@ fn vectors_compare_and_hash_as_lists(rt: HostRuntime) -> Result<(), Fail> {
         one_two.partial_cmp(&of(alloc, &[1, 2, 0])?),
         Some(Ordering::Less)
     );
-    let text = format!(in alloc; "{one_two:?}")?;
-    assert_eq!(rt; text.as_str(), "[1, 2]");
+    let three = of(alloc, &[1, 2, 3])?;
+    let text = format!(in alloc; "{three:?}")?;
+    assert_eq!(rt; text.as_str(), "[1, 2, 3]");
     let (mut left, mut right) = (DefaultHasher::new(), DefaultHasher::new());
     one_two.hash(&mut left);
     of(alloc, &[1, 2])?.into_vec().hash(&mut right);
