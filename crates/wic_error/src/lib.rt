@@ -25,8 +25,9 @@
 //! and a link has no source of its own. A `Kind` writes what its own `text` says; nothing checks that it can be read.
 //!
 //! **Costs.** Links lie in one list, the root first: `context` pushes, in amortised constant time, and no link is cloned.
-//! `new` and `context` may allocate, and each text allocates its own memory. `is` and the downcasts visit each link at
-//! most once, the newest first; `chain`, `root_cause`, `from_oom` and all calls on a value don't allocate.
+//! `new` and `context` may allocate, and each text allocates its own memory, but for `push_line`, which puts the line at
+//! the end of a text. `is` and the downcasts visit each link at most once, the newest first; `chain`, `root_cause`,
+//! `from_oom` and all calls on a value don't allocate.
 //!
 //! **Out of memory.** `new`, `msg` and `context` return an error that is out of memory, and the links are dropped.
 //! `is_oom` tells it from the others, and `root_cause` has its size. The texts return `OutOfMemory` themselves and leave

@@ -19,10 +19,19 @@ impl<K: Kind> Error<K> {
         ensures text { IfOk result (λ text. text.bytes ≡ first_text (texts_of K.text self.now)) }
     {
         let mut text = TryString::new(alloc);
-        if let Some(newest) = self.chain().next() {
-            newest.push_text(&mut text)?;
-        }
+        self.push_first(&mut text)?;
         Ok(text)
+    }
+
+    // Puts the text of the first item at the end of `out`.
+    fn push_first(&self, out: &mut TryString) -> Result<(), OutOfMemory>
+        ensures first { OnOk result
+            (out.new.bytes ≡ out.old.bytes ++ first_text (texts_of K.text self.now)) }
+    {
+        match self.chain().next() {
+            Some(newest) => newest.push_text(out),
+            None => Ok(()),
+        }
     }
 
     /// The texts of all items in one line, joined by a colon and a space, the newest first.
@@ -31,9 +40,19 @@ impl<K: Kind> Error<K> {
     pub fn line(&self, alloc: Global) -> Result<TryString, OutOfMemory>
         ensures text { IfOk result (λ text. text.bytes ≡ line (texts_of K.text self.now)) }
     {
-        let mut text = self.first_text(alloc)?;
-        push_joined(self.causes(), &mut text)?;
+        let mut text = TryString::new(alloc);
+        self.push_line(&mut text)?;
         Ok(text)
+    }
+
+    /// Puts the line that `line` returns at the end of `out`, and makes no text of its own. After a refusal a part of the
+    /// line may stand there.
+    pub fn push_line(&self, out: &mut TryString) -> Result<(), OutOfMemory>
+        ensures line { OnOk result
+            (out.new.bytes ≡ out.old.bytes ++ line (texts_of K.text self.now)) }
+    {
+        self.push_first(out)?;
+        push_joined(self.causes(), out)
     }
 
     /// The first text, and if there are further items a heading and a line for each: a single one behind four

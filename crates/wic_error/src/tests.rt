@@ -2,6 +2,7 @@ ghost use Rattle.std.specs.Prelude.{Some};
 
 use super::*;
 use crate::callers::{launch, tells};
+use crate::repr::Repr;
 use std::alloc::Global;
 use std::fmt;
 use std::test::Fail;
@@ -78,6 +79,9 @@ fn an_error_has_three_texts(rt: HostRuntime) -> Result<(), Fail> {
         assert_eq!(rt; error.first_text(alloc)?.as_str(), first);
         assert_eq!(rt; error.line(alloc)?.as_str(), line);
         assert_eq!(rt; error.report(alloc)?.as_str(), report);
+        let mut told = TryString::try_from_str(alloc, "refused: ")?;
+        error.push_line(&mut told)?;
+        assert_eq!(rt; told.as_str().strip_prefix("refused: "), Some(line));
     }
     Ok(())
 }
@@ -199,6 +203,30 @@ fn a_value_gets_no_context_and_no_call(rt: HostRuntime) -> Result<(), Fail> {
     assert_eq!(rt; calls, 0);
     let five: Result<u8, Error<Said>> = ok(5);
     assert!(rt; five.is_ok_and(|value| value == 5));
+    Ok(())
+}
+
+// How many links fit without an allocation.
+fn room(error: &Error<Said>) -> usize {
+    match &error.repr {
+        Repr::Oom(_) => 0,
+        Repr::Links(links) => links.capacity(),
+    }
+}
+
+#[test]
+fn a_thousand_contexts_take_few_allocations(rt: HostRuntime) -> Result<(), Fail> {
+    let alloc = rt.alloc();
+    let mut error = Error::new(alloc, link(1, "ouch"));
+    let mut growths = 0u32;
+    for _ in 0..1000 {
+        let before = room(&error);
+        error = error.context(alloc, link(2, "whoops"));
+        if room(&error) != before {
+            growths = growths.saturating_add(1);
+        }
+    }
+    assert!(rt; !error.is_oom() && growths <= 12);
     Ok(())
 }
 
