@@ -5,3 +5,4 @@ pub mod Cow
 pub mod CowLends
 pub mod Errors
 pub mod Iterates
+pub mod Ranges

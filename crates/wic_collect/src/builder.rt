@@ -23,7 +23,7 @@ pub struct BoxedSliceBuilder<T> {
 }
 
 impl<T> Model for BoxedSliceBuilder<T> {
-    ghost use Rattle.std.specs.Prelude.{◌≤◌, length};
+    ghost use Rattle.std.specs.Prelude.{◌≡◌, ◌≤◌, length};
     ghost use Rattle.wic_vec.specs.TryVec.{TryVec as Sequence, try_vec_code};
 
     ghost Value = { Sequence T };
@@ -32,7 +32,7 @@ impl<T> Model for BoxedSliceBuilder<T> {
 
     ghost view = { λ b. record { items = b.items.items; capacity = b.len } };
 
-    ghost invariant = { λ b. (length b.items.items ≤ b.len) × (b.len ≤ b.items.capacity) };
+    ghost invariant = { λ b. (length b.items.items ≤ b.len) × (b.items.capacity ≡ b.len) };
 }
 
 impl<T> BoxedSliceBuilder<T> {

@@ -1,7 +1,7 @@
 //! Callers of collecting and of cows, proved from their contracts alone.
-ghost use Rattle.std.specs.Prelude.{◌≡◌, ◌⊎◌, ◌++◌, ◌+◌, ◌/◌, ◌<◌, ◌≤◌, ℕ, codes, length, map, reverse, min};
+ghost use Rattle.std.specs.Prelude.{◌≡◌, ◌⊎◌, ◌++◌, ◌+◌, ◌-◌, ◌*◌, ◌/◌, ◌<◌, ◌≤◌, ℕ, codes, length, map, reverse, min};
 ghost use Rattle.std.specs.Prelude.{nat_lt, IsOk, IfOk, IfErr, OnOk, OnErr};
-ghost use Rattle.std.specs.List.{filter, slice_index_or};
+ghost use Rattle.std.specs.List.{filter, range_with_len, slice_index_or};
 ghost use Rattle.wic_collect.specs.declared.callers.Refusal.TheVariants.{Oom, Number};
 ghost use Rattle.wic_collect.specs.Cow.{cow_bytes};
 ghost use Rattle.wic_collect.specs.Errors.{OnTooFewItems, OnIterError};
@@ -83,6 +83,21 @@ pub fn joined(alloc: Global, xs: &[u32], ys: &[u32]) -> Result<TryVec<u32>, OutO
     ensures items { IfOk result (λ v. v.items ≡ xs.now ++ ys.now) }
 {
     try_collect(alloc, xs.iter().copied().chain(ys.iter().copied()))
+}
+
+// The numbers from 0 to below `n`, from a range.
+pub fn counted(alloc: Global, n: usize) -> Result<TryVec<usize>, OutOfMemory>
+    ensures items { IfOk result (λ v. v.items ≡ range_with_len 0 n) }
+    ensures length { IfOk result (λ v. length v.items ≡ n) }
+{
+    try_collect(alloc, 0..n)
+}
+
+// Twice each of the numbers from `lo` to below `hi`, from a range through `map`.
+pub fn doubled(alloc: Global, lo: u8, hi: u8) -> Result<BoxedSlice<u32>, OutOfMemory>
+    ensures items { IfOk result (λ s. s ≡ map (λ x. x * 2) (range_with_len lo (hi - lo))) }
+{
+    try_collect(alloc, (lo..hi).map(|x| x as u32 * 2))
 }
 
 // Halves at the end of a vector. Never refused if there is room for all; a refusal leaves the elements.

@@ -55,6 +55,8 @@ pub(crate) fn pour<T: Drop, E, X: IntoResult<T, E>, I: Iterator<Item = X>>(
     ensures items { (values : List T) × (to.new.items ≡ to.old.items ++ values)
         × IsStoppedBy I.next_gives X.as_result limit iter.old values iter.new to.new result }
     ensures capacity_never_falls { to.old.capacity ≤ to.new.capacity }
+    ensures capacity_kept_within { IfSome limit (λ most. most ≤ to.old.capacity
+        → to.new.capacity ≡ to.old.capacity) }
 {
     while limit != Some(to.len()) {
         let Some(item) = iter.next() else {

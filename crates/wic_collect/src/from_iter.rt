@@ -3,6 +3,7 @@ ghost use Rattle.std.specs.Prelude.{⊤, ◌≡◌, List, MatchResult};
 ghost use Rattle.std.specs.Iterator.{Yields, Drains};
 ghost use Rattle.std.specs.Iterator.Runs.{SomeRun, WholeRun};
 ghost use Rattle.wic_collect.specs.Collected.{AreValues, EndInError};
+ghost use Rattle.wic_collect.specs.Ranges.{RangesGiveTheirNumbers};
 
 use crate::collect::{Stop, pour};
 use crate::slice::{BoxedSlice, into_boxed_slice};
@@ -105,7 +106,10 @@ impl<T: Drop, E: From<OutOfMemory> + Drop> TryFromIterator<Result<T, E>, E> for 
 /// Returns a collection of all items of `iter`, in order, as `B::try_from_iter` makes it. Of items that are results it has
 /// the values: the first `Err` is returned, and no more items are read. Amortised constant time for each item.
 ///
+/// The clause `ranges` is for callers that collect from a range, as `0..n`.
+///
 /// A port of `TryCollect::try_collect`.
+#[tactic(auto, using(crate::proofs::RangeFacts::range_whole))]
 pub fn try_collect<B: TryFromIterator<T, E>, T, E, I: Iterator<Item = T>>(
     alloc: Global,
     iter: I,
@@ -116,6 +120,7 @@ pub fn try_collect<B: TryFromIterator<T, E>, T, E, I: Iterator<Item = T>>(
         (λ e. (items : List T) × (t : I) × Yields I.next_gives iter items t × B.fails items e) }
     ensures runs { MatchResult result (λ made. WholeRun I.next_gives iter (λ p. B.has made p.items))
         (λ e. SomeRun I.next_gives iter (λ p. B.fails p.items e)) }
+    ensures ranges { RangesGiveTheirNumbers }
 {
     B::try_from_iter(alloc, iter)
 }

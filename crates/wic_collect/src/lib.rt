@@ -13,8 +13,8 @@
 //! ```
 //!
 //! Each call says what it read as a run of its iterator (the clauses `runs`). The check follows a run through `map`,
-//! `filter`, `take`, `zip`, `enumerate`, `rev` and `chain`, so callers of such chains mostly need no proof; the file
-//! `callers` has one of each. Over results, `AreValues` and `EndWithError` say what was read place by place.
+//! `filter`, `take`, `zip`, `enumerate`, `rev` and `chain`, and from a range in `try_collect`, so callers of such chains
+//! mostly need no proof; the file `callers` has one of each. Over results, `AreValues` and `EndWithError` say what was read place by place.
 //!
 //! Room is taken as items come, and never by the size hint of an iterator, so a wrong hint costs nothing. No call
 //! requires that an iterator ends: one that doesn't is read until the call is out of memory. Which items stay unread is

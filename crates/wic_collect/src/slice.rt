@@ -15,11 +15,13 @@ pub struct BoxedSlice<T> {
 }
 
 impl<T> Model for BoxedSlice<T> {
-    ghost use Rattle.std.specs.Prelude.{List};
+    ghost use Rattle.std.specs.Prelude.{List, ◌≡◌, length};
 
     ghost Value = { List T };
 
     ghost view = { λ s. s.items.items };
+
+    ghost invariant = { λ s. s.items.capacity ≡ length s.items.items };
 }
 
 impl<T> BoxedSlice<T> {
@@ -37,15 +39,17 @@ impl<T> BoxedSlice<T> {
         self.items.len()
     }
 
-    /// Returns the elements as a vector, in the same memory.
+    /// Returns the elements as a vector, in the same memory, which has room for no more.
     pub fn into_vec(self) -> TryVec<T>
         ensures items { result.items ≡ self }
+        ensures capacity { result.capacity ≡ length self }
     {
         self.items
     }
 
-    // The elements of `items`, with whatever room there is behind them.
+    // The elements of `items`, which has room for no more.
     pub(crate) fn of(items: TryVec<T>) -> BoxedSlice<T>
+        requires { items.capacity ≡ length items.items }
         ensures items { result ≡ items.items }
     {
         BoxedSlice { items }

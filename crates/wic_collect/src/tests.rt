@@ -47,6 +47,53 @@ fn vectors_and_texts_become_boxed(rt: HostRuntime) -> Result<(), Fail> {
     Ok(())
 }
 
+// Numbers, with room for more.
+fn roomy(alloc: Global, numbers: &[u32]) -> Result<TryVec<u32>, OutOfMemory> {
+    let mut v = TryVec::with_capacity(alloc, 100)?;
+    v.extend_from_slice(numbers)?;
+    Ok(v)
+}
+
+#[test]
+fn the_block_of_a_boxed_slice_is_as_large_as_its_items(rt: HostRuntime) -> Result<(), Fail> {
+    let alloc = rt.alloc();
+    let numbers = [1, 2, 3];
+    let mut builder = BoxedSliceBuilder::new(alloc, 3)?;
+    for number in numbers {
+        assert!(rt; builder.init_len() < builder.capacity());
+        builder.push(number);
+    }
+    assert!(rt; builder.init_len() == builder.capacity());
+    let boxed = into_boxed_slice(roomy(alloc, &numbers)?)?;
+    let copy = boxed.try_clone(alloc)?;
+    let collected: BoxedSlice<u32> = try_collect(alloc, numbers.into_iter())?;
+    for slice in [boxed, copy, collected, builder.finish()] {
+        assert_eq!(rt; slice.into_vec().into_vec().capacity(), 3);
+    }
+    let mut text = TryString::with_capacity(alloc, 100)?;
+    text.push_str("abc")?;
+    let boxed = into_boxed_str(text)?;
+    for text in [boxed.try_clone(alloc)?, boxed] {
+        assert_eq!(rt; text.into_string().into_string().capacity(), 3);
+    }
+    Ok(())
+}
+
+#[test]
+fn a_thousand_small_extensions_take_few_allocations(rt: HostRuntime) -> Result<(), Fail> {
+    let mut numbers = TryVec::new(rt.alloc());
+    let mut growths = 0u32;
+    for _ in 0..1000 {
+        let before = numbers.capacity();
+        numbers.try_extend(Some(7u32))?;
+        if numbers.capacity() != before {
+            growths = growths.saturating_add(1);
+        }
+    }
+    assert!(rt; growths <= 12);
+    Ok(())
+}
+
 #[test]
 fn a_builder_is_filled_or_cut(rt: HostRuntime) -> Result<(), Fail> {
     let alloc = rt.alloc();

@@ -15,11 +15,13 @@ pub struct BoxedStr {
 }
 
 impl Model for BoxedStr {
-    ghost use Rattle.std.specs.Prelude.{ℕ, List};
+    ghost use Rattle.std.specs.Prelude.{ℕ, List, ◌≡◌, length};
 
     ghost Value = { List ℕ };
 
     ghost view = { λ s. s.text.bytes };
+
+    ghost invariant = { λ s. s.text.capacity ≡ length s.text.bytes };
 }
 
 impl BoxedStr {
@@ -37,9 +39,10 @@ impl BoxedStr {
         self.text.len()
     }
 
-    /// Returns the text as one that can grow, in the same memory.
+    /// Returns the text as one that can grow, in the same memory, which has room for no more.
     pub fn into_string(self) -> TryString
         ensures text { result.bytes ≡ self }
+        ensures capacity { result.capacity ≡ length self }
     {
         self.text
     }

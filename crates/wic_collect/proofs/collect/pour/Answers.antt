@@ -11,6 +11,7 @@ loop-limit-preserved g c =
       ready = search rules;
       within = grind (arith, common_steps);
       capacity = omega (arith, put.capacity_never_falls, at.capacity);
+      kept = grind (arith, common_steps);
       read = (
         at.read.0 ++ c.in-Ok.value ∷ [],
         put.last ∙ ap (λ l. l ++ c.in-Ok.value ∷ []) at.read.1 ∙ append_assoc _ at.read.0 _,
