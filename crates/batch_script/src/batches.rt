@@ -8,6 +8,7 @@ ghost use Rattle.batch_script.specs.Program.{SummarizesRun, batch_meaning};
 ghost use Rattle.batch_script.specs.Status.{Concludes, EndsAmong};
 ghost use Rattle.batch_script.specs.Summary.{summary_text};
 ghost use Rattle.batch_script.specs.Words.{AsksForRun};
+ghost use Rattle.batch_script.specs.declared.program.Status.{Status};
 ghost use Rattle.batch_script.specs.declared.program.TheConstants.{INPUT_LIMIT};
 ghost use Rattle.batch_script.specs.declared.words.TheConstants.{MOST_BATCHES};
 
@@ -106,6 +107,9 @@ pub fn top<S: Source, K: Sink>(
     // How often is read: at most this often, and not at all if there are words.
     ensures reads { AtMost (INPUT_LIMIT + 1) S.reaches source.old source.new }
     ensures source_stays { words.now.items ≢ [] → source.new ≡ source.old }
+
+    // Another text may follow to the same sink, unless a write failed.
+    ensures can_write_again { result ≢ Status.WriteFault → K.can_call sink.new }
 {
     serve::<Batches, S, K>(alloc, words, source, sink)
 }

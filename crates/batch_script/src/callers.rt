@@ -1,5 +1,5 @@
 //! Callers of the program, proved from its contract alone.
-ghost use Rattle.std.specs.Prelude.{◌≡◌, ◌≢◌, ◌⊎◌, ◌≤◌, ◌∷◌, ℕ, List, [], codes, length, Some, IfOk};
+ghost use Rattle.std.specs.Prelude.{◌≡◌, ◌≢◌, ◌⊎◌, ◌≤◌, ◌∷◌, ◌++◌, ℕ, List, [], codes, length, Some, IfOk, OnOk};
 ghost use Rattle.batch_core.specs.State.{no_contents};
 ghost use Rattle.batch_script.specs.Device.{HasFaults, use_of};
 ghost use Rattle.batch_script.specs.Grammar.{IsScript, IsScriptOf};
@@ -12,9 +12,9 @@ ghost use Rattle.batch_script.specs.declared.program.Status.{Status};
 ghost use Rattle.batch_script.specs.declared.program.TheConstants.{INPUT_LIMIT};
 
 use crate::batches::top;
-use crate::device::{Sink, Source};
+use crate::device::{Failed, Sink, Source};
 use crate::memory_device::{MemSink, MemSource};
-use crate::program::Status;
+use crate::program::{Status, write_text};
 use crate::reply::push_contents;
 use batch_core::{Cause, Command, Workspace};
 use std::alloc::Global;
@@ -72,6 +72,35 @@ pub fn serve_generated<S: Source, K: Sink>(
     ensures source_stays { words.now.items ≢ [] → source.new ≡ source.old }
 {
     top(alloc, words, source, sink)
+}
+
+/// Writes two texts to any sink, one after the other.
+pub fn write_both<K: Sink>(first: &str, second: &str, sink: &mut K) -> Result<(), Failed>
+    requires can_write { K.can_call sink.old }
+    ensures both { (held : List ℕ) → K.written sink.old ≡ Some held
+        → OnOk result (K.written sink.new ≡ Some ((held ++ first.now) ++ second.now)) }
+    ensures can_write_again { OnOk result (K.can_call sink.new) }
+{
+    write_text(first, sink)?;
+    write_text(second, sink)
+}
+
+/// Serves two inputs to one sink, the second only if the sink may still be called.
+pub fn serve_both<S: Source, K: Sink>(
+    alloc: Global,
+    first: &mut S,
+    second: &mut S,
+    sink: &mut K,
+) -> Status
+    requires can_read_first { S.can_call first.old }
+    requires can_read_second { S.can_call second.old }
+    requires can_write { K.can_call sink.old }
+    ensures can_write_again { result ≢ Status.WriteFault → K.can_call sink.new }
+{
+    match top(alloc, &TryVec::new(alloc), first, sink) {
+        Status::WriteFault => Status::WriteFault,
+        _ => top(alloc, &TryVec::new(alloc), second, sink),
+    }
 }
 
 /// Puts a member into an empty workspace, holds a value, and shows both: the text is known, letter by letter.

@@ -5,6 +5,7 @@ ghost use Rattle.batch_script.specs.Device.{AtMost, Use, use_of};
 ghost use Rattle.batch_script.specs.Refusal.{IsJustifiedBy};
 ghost use Rattle.batch_script.specs.Status.{CallsFor, Concludes, EndsAmong, Finishes, IsMeaning};
 ghost use Rattle.batch_script.specs.Status.{Meaning, WritesFront, WritesWhole, line_text};
+ghost use Rattle.batch_script.specs.declared.program.Status.{Status};
 ghost use Rattle.batch_script.specs.declared.program.TheConstants.{INPUT_LIMIT};
 
 use crate::device::{Failed, Sink, Source};
@@ -173,11 +174,13 @@ fn take_piece(bytes: &mut TryVec<u8>, piece: &[u8]) -> Result<(), ReadEnd>
 }
 
 /// Writes a whole text: each write is offered all that is left, and an empty text makes no write. `Failed` comes only if the
-/// sink's count of faults rose or stands at its last value; a proper prefix is written then, and the sink may not be called.
+/// sink's count of faults rose or stands at its last value; a proper prefix is written then, and the sink may not be called. After
+/// `Ok` it may be.
 pub fn write_text<K: Sink>(text: &str, sink: &mut K) -> Result<(), Failed>
     requires can_call { K.can_call sink.old }
     ensures whole { OnOk result (WritesWhole text.now (use_of K.written K.faults sink.old sink.new)
         (λ most. AtMost most K.reaches sink.old sink.new)) }
+    ensures can_call { OnOk result (K.can_call sink.new) }
     ensures front { OnErr result (WritesFront text.now (use_of K.written K.faults sink.old sink.new)
         (λ most. AtMost most K.reaches sink.old sink.new)) }
 {
@@ -192,8 +195,9 @@ pub fn write_text<K: Sink>(text: &str, sink: &mut K) -> Result<(), Failed>
 /// Writes a text and returns the status, or that a write failed.
 fn finish<K: Sink>(text: &str, status: Status, sink: &mut K) -> Status
     requires can_call { K.can_call sink.old }
-    ensures { Finishes text.now status (use_of K.written K.faults sink.old sink.new)
+    ensures finishes { Finishes text.now status (use_of K.written K.faults sink.old sink.new)
         (λ most. AtMost most K.reaches sink.old sink.new) result }
+    ensures can_write_again { result ≢ Status.WriteFault → K.can_call sink.new }
 {
     match write_text(text, sink) {
         Ok(()) => status,
@@ -250,7 +254,7 @@ fn answer_to_source<P: Program, S: Source>(alloc: Global, source: &mut S) -> Ans
 /// Returns the status. If several are possible it is, in this order: the usage; a read fault, an input too long or out of memory,
 /// whichever reading meets first; a fault of the script or out of memory; and a write fault in place of any of these. Each write
 /// is offered all that is left of the text; an empty text makes no write. No device is called after a call of it failed, nor the
-/// source after its end.
+/// source after its end. After every status but a write fault the sink may be called again.
 pub fn serve<P: Program, S: Source, K: Sink>(
     alloc: Global,
     words: &TryVec<TryString>,
@@ -268,6 +272,7 @@ pub fn serve<P: Program, S: Source, K: Sink>(
         (use_of K.written K.faults sink.old sink.new) result }
     ensures reads { AtMost (INPUT_LIMIT + 1) S.reaches source.old source.new }
     ensures source_stays { words.now.items ≢ [] → source.new ≡ source.old }
+    ensures can_write_again { result ≢ Status.WriteFault → K.can_call sink.new }
 {
     let answer = match P::asked(alloc, words) {
         Asked::Script => answer_to_source::<P, S>(alloc, source),

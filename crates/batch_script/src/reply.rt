@@ -116,9 +116,8 @@ pub(crate) fn push_refusal(
     if let ChainItem::Oom(oom) = error.root_cause() {
         return Err(oom);
     }
-    let line = error.line(alloc)?;
     text.push_str("refused: ")?;
-    text.push_str(line.as_str())?;
+    error.push_line(text)?;
     text.push('\n')
 }
 

@@ -29,7 +29,7 @@ returns-clause-concludes g c =
     ] in
     concludes_by meaning words source (use_of g.K.Sink.written g.K.Device.faults c.args.sink.now c.finish.new.sink)
     (λ most. AtMost most g.K.Device.reaches c.args.sink.now c.finish.new.sink) c.finish.result c.status.result c.text.result.now answer
-    called c.status.ensures.status c.text.ensures.text c.finish.ensures
+    called c.status.ensures.status c.text.ensures.text c.finish.ensures.finishes
 
 pub returns-clause-ends : goal.returns-clause-ends
 returns-clause-ends g c =
