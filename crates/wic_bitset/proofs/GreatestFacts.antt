@@ -1,5 +1,5 @@
 -- The greatest member as a number is put in or taken out, and from one word to the next.
-use Rattle.std.proofs.Common.{⊎_elim, ◌≡◌, ◌≢◌, ℕ, ◌+◌, ◌*◌, ◌<◌, ◌≤◌, true, false, max, Bool, not, Option, Some, None, is_some}
+use Rattle.std.proofs.Common.{⊎_elim, ◌≡◌, ◌≢◌, ℕ, ◌+◌, ◌*◌, ◌/◌, ◌<◌, ◌≤◌, true, false, max, Bool, not, Option, Some, None, is_some}
 use Rattle.std.proofs.Common.{IsNone, IsTrue, refl, ◌↔◌, sym, ap, ◌∙◌, arith}
 use Rattle.std.specs.Prelude.{nat_eq, IfSome}
 use Rattle.std.proofs.Math.Nat.{div-lt_iff_lt-mul}
@@ -73,6 +73,18 @@ max-remove_other s i (Some m) old other =
       member = same_after_remove s i m apart ∙ old.member;
       greatest = λ q has. old.greatest q (was_before_remove s i q has);
     }
+
+-- the greatest is taken out: no member stands after its word
+pub ends-remove_greatest : (w i : ℕ) (s : FinSet nat_cmp) (r : Option ℕ) → 0 < w → IsMax s r → option_eq nat_eq r (Some i) ≡ true
+    → EndsBefore w (remove s i) (i / w + 1)
+ends-remove_greatest w i s None some none it q has = absurd (cc)
+ends-remove_greatest w i s (Some m) some last it q has = ⊎_elim
+    (λ same.
+    let le = last.greatest q (was_before_remove s i q has) in
+    let up = div_mono w q i some (omega arith) in
+    omega arith)
+    (λ apart. absurd (grind (arith, nat_tests)))
+    (cases_eq m i)
 
 -- ---- from one word to the next
 

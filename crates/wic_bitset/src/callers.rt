@@ -66,7 +66,8 @@ pub fn walked_count<T: ScalarBitSetStorage>(set: &CompoundBitSet<T>) -> usize
     set.iter().count()
 }
 
-// Two members far apart: of 156251 words, 2 are read, and the 2442 words of the summary.
+// Two members far apart, in 156251 words. `members` promises one read for each of the 2 words that have a member, and one for each of the
+// 2442 words that a summary in the set's own storage would have. There are fewer reads: the summary is in wider words.
 pub fn far_apart<L: Ledger>(
     alloc: Global,
     steps: &mut Steps<L>,

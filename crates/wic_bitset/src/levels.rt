@@ -102,6 +102,10 @@ impl NumberSet for Levels {
         self.first.greatest()
     }
 
+    fn greatest_up_to(&self, i: usize) -> Option<usize> {
+        self.first.greatest_up_to(i)
+    }
+
     fn least_from(&self, i: usize) -> Option<usize> {
         self.first.least_from(i)
     }

@@ -1,11 +1,12 @@
 //! Words, and the set of the numbers of those that have a member, their marks. One level is done here for all: the words of a
 //! set with its summary, and each level of the summary with the one above it.
-ghost use Rattle.std.specs.Prelude.{◌≡◌, ◌↔◌, ◌*◌, ◌<◌, ◌≤◌, ℕ, not, true, IsTrue};
+ghost use Rattle.std.specs.Prelude.{◌≡◌, ◌↔◌, ◌+◌, ◌*◌, ◌<◌, ◌≤◌, ℕ, not, true, IsTrue};
 ghost use Rattle.std.specs.FinSet as fin_set;
 ghost use Rattle.wic_bitset.specs.Combination.{combined, words_to_combine, CombinesWord, HasWordsFor, KeepsNone, TellsChange};
 ghost use Rattle.wic_bitset.specs.From.{IsMinFrom};
 ghost use Rattle.wic_bitset.specs.Greatest.{IsMax};
 ghost use Rattle.wic_bitset.specs.Summary.{Summarizes};
+ghost use Rattle.wic_bitset.specs.Words.{EndsBefore};
 ghost use Rattle.wic_bitset.specs.Compound.{max_number};
 
 use crate::combination::Combination;
@@ -92,6 +93,28 @@ pub fn greatest_marked<T: ScalarBitSetStorage, S: NumberSet>(
     match marks.greatest() {
         Some(k) => words.max_of_word(k),
         None => None,
+    }
+}
+
+/// The greatest member, where none stands after word `k`: in word `k`, or else in the greatest word that `marks` has, which
+/// are looked at near `k` first.
+#[inline]
+pub fn greatest_up_to_word<T: ScalarBitSetStorage, S: NumberSet>(
+    words: &Store<T>,
+    marks: &S,
+    k: usize,
+) -> Option<usize>
+    requires marks { Summarizes T.width words.now (S.members marks.now) (S.end marks.now) }
+    requires there { k < words.now.count }
+    requires last { EndsBefore T.width words.now.members (k + 1) }
+    ensures { IsMax words.now.members result }
+{
+    match words.max_of_word(k) {
+        Some(greatest) => Some(greatest),
+        None => match marks.greatest_up_to(k) {
+            Some(last) => words.max_of_word(last),
+            None => None,
+        },
     }
 }
 

@@ -3,7 +3,7 @@ ghost use Rattle.std.specs.Prelude.{◌≡◌, ◌↔◌, ◌<◌, ◌≤◌, �
 ghost use Rattle.std.specs.FinSet as fin_set;
 ghost use Rattle.std.specs.Ordering.{nat_cmp};
 ghost use Rattle.wic_bitset.specs.From.{IsMinFrom};
-ghost use Rattle.wic_bitset.specs.Greatest.{IsMax};
+ghost use Rattle.wic_bitset.specs.Greatest.{IsMax, IsNoneAbove};
 ghost use Rattle.wic_bitset.specs.Words.{most_words};
 ghost use Rattle.wic_bitset.specs.Compound.{max_number};
 
@@ -55,6 +55,12 @@ pub trait NumberSet: Drop {
 
     /// The greatest member, or `None` if there is none.
     fn greatest(&self) -> Option<usize>
+        ensures { IsMax (members self.now) result };
+
+    /// The same, where no member is above `i`: it looks near `i` first.
+    fn greatest_up_to(&self, i: usize) -> Option<usize>
+        requires within { i < end self.now }
+        requires none_above { IsNoneAbove (members self.now) i }
         ensures { IsMax (members self.now) result };
 
     /// The least member from `i` on, or `None` if there is none: `i` may be any number.

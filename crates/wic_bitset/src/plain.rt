@@ -41,6 +41,10 @@ impl<T: ScalarBitSetStorage> NumberSet for Store<T> {
         self.max_within(self.count())
     }
 
+    fn greatest_up_to(&self, _i: usize) -> Option<usize> {
+        self.greatest()
+    }
+
     fn least_from(&self, i: usize) -> Option<usize> {
         scan_from(self, i)
     }

@@ -21,7 +21,7 @@ use crate::growth::grown_count;
 use crate::iter::Iter;
 use crate::iter_scalars::IterScalars;
 use crate::levels::{Levels, TopLevels, UpperLevels};
-use crate::marked::{clear_marked, greatest_marked, insert_into, remove_from};
+use crate::marked::{clear_marked, greatest_up_to_word, insert_into, remove_from};
 use crate::number_set::NumberSet;
 use crate::store::Store;
 use crate::walk::Walk;
@@ -42,13 +42,23 @@ pub const MAX_CAPACITY: usize = 4294967296;
 ///
 /// A contract sees its `members`, a finite set, and the number of its `words`; the capacity is the words times the
 /// width of `T`.
-#[derive(Drop)]
 pub struct CompoundBitSet<T: ScalarBitSetStorage = usize> {
     words: Store<T>,
     // The numbers of the words that have a member.
     summary: Levels,
     // The greatest member.
     max: Option<usize>,
+}
+
+// By hand, so that a caller's proof sees one call where a set ends, and no levels.
+impl<T: ScalarBitSetStorage> Drop for CompoundBitSet<T> {
+    fn drop(self) {
+        let CompoundBitSet {
+            words: _,
+            summary: _,
+            max: _,
+        } = self;
+    }
 }
 
 impl<T: ScalarBitSetStorage> Model for CompoundBitSet<T> {
@@ -175,7 +185,7 @@ impl<T: ScalarBitSetStorage> CompoundBitSet<T> {
     {
         let was_present = remove_from(&mut self.words, &mut self.summary, i);
         if self.max == Some(i) {
-            self.max = greatest_marked(&self.words, &self.summary);
+            self.max = greatest_up_to_word(&self.words, &self.summary, i / T::width() as usize);
         }
         was_present
     }

@@ -5,7 +5,8 @@ ghost use Rattle.wic_bitset.specs.Rising.{rising, word_members};
 ghost use Rattle.wic_bitset.specs.Summary.{filled_words};
 
 use crate::marked::{
-    clear_marked, greatest_marked, insert_into, least_marked_from, remove_from, same_marked,
+    clear_marked, greatest_marked, greatest_up_to_word, insert_into, least_marked_from,
+    remove_from, same_marked,
 };
 use crate::number_set::NumberSet;
 use crate::plain::{grow_words, reserve_words};
@@ -108,6 +109,10 @@ impl<T: ScalarBitSetStorage, S: NumberSet> NumberSet for Summarized<T, S> {
 
     fn greatest(&self) -> Option<usize> {
         greatest_marked(&self.words, &self.marks)
+    }
+
+    fn greatest_up_to(&self, i: usize) -> Option<usize> {
+        greatest_up_to_word(&self.words, &self.marks, i / T::width() as usize)
     }
 
     // Out of line, so that a step of a walk within a word is short.

@@ -126,15 +126,15 @@ fn text_of(alloc: Global, set: &CompoundBitSet<u64>) -> Result<String, Fail> {
     Ok(format!(in alloc; "{set:?}")?)
 }
 
-// Takes one number out of three: the debug text has the other two.
+// Takes one number out of four: the debug text has the other three.
 fn rest_is_printed(
     rt: &impl Abort,
     alloc: Global,
     set: &mut CompoundBitSet<u64>,
 ) -> Result<(), Fail> {
-    put(set, &[444, 555, 666])?;
-    assert!(rt; set.remove(666));
-    assert_eq!(rt; text_of(alloc, set)?.as_str(), "CompoundBitSet {444, 555}");
+    put(set, &[444, 555, 666, 777])?;
+    assert!(rt; set.remove(777));
+    assert_eq!(rt; text_of(alloc, set)?.as_str(), "CompoundBitSet {444, 555, 666}");
     Ok(())
 }
 

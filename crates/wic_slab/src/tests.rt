@@ -202,7 +202,10 @@ fn debug_texts(rt: HostRuntime) -> Result<(), Fail> {
     let id = id_of(3)?;
     assert_eq!(rt; format!(in rt.alloc(); "{id:?}")?.as_str(), "Id(3)");
     let mut slab = Slab::new(rt.alloc());
-    put(&rt, &mut slab, 7)?;
-    assert_eq!(rt; format!(in rt.alloc(); "{slab:?}")?.as_str(), "{Id(0): 7}");
+    for value in [7, 8, 9] {
+        put(&rt, &mut slab, value)?;
+    }
+    let text = format!(in rt.alloc(); "{slab:?}")?;
+    assert_eq!(rt; text.as_str(), "{Id(0): 7, Id(1): 8, Id(2): 9}");
     Ok(())
 }
