@@ -1,11 +1,13 @@
 //! Callers of a set, proved from its contracts alone.
 ghost use Rattle.std.specs.Prelude.{◌≡◌, ℕ, ◌<◌, length, slice_index, false, IfOk, OnOk};
 ghost use Rattle.std.specs.FinSet as fin_set;
+ghost use Rattle.std.specs.Ordering.{nat_cmp};
 ghost use Rattle.wic_base.specs.Sets.{AllBelow};
 ghost use Rattle.entity_set.specs.Follows.{IsFollowed};
 ghost use Rattle.wic_bitset.specs.Compound.{max_capacity};
 
 use crate::{EntityRef, EntitySet, law_keys};
+use std::alloc::Global;
 use wic_base::OutOfMemory;
 use wic_bitset::{CompoundBitSet, MAX_CAPACITY};
 
@@ -100,4 +102,25 @@ pub fn walked_count<K: EntityRef>(set: &EntitySet<K>) -> usize
 {
     law_keys();
     set.keys().count()
+}
+
+// Makes three sets of its own, and returns whether the block of the first is in one of the two others. Each `?` ends three sets.
+pub fn is_one_of(
+    alloc: Global,
+    sought: Block,
+    left: Block,
+    right: Block,
+) -> Result<bool, OutOfMemory>
+    ensures found { IfOk result (λ found. found ≡ fin_set.is_subset {R = nat_cmp}
+        (fin_set.insert fin_set.empty sought.0)
+        (fin_set.union (fin_set.insert fin_set.empty left.0) (fin_set.insert fin_set.empty right.0))) }
+{
+    let mut blocks = EntitySet::new(alloc);
+    let mut either = EntitySet::new(alloc);
+    let mut more = EntitySet::new(alloc);
+    blocks.insert(sought)?;
+    either.insert(left)?;
+    more.insert(right)?;
+    either.union_with(&more)?;
+    Ok(blocks.is_subset(&either))
 }

@@ -1,9 +1,10 @@
 //! The set of keys.
-ghost use Rattle.std.specs.Prelude.{◌≡◌, ℕ, ◌<◌, ◌≤◌, ◌↔◌, length, not, true, false, All};
+ghost use Rattle.std.specs.Prelude.{◌≡◌, ℕ, ◌*◌, ◌<◌, ◌≤◌, ◌↔◌, length, not, true, false, All};
 ghost use Rattle.std.specs.Prelude.{IsTrue, IsOk, IsNone, IfOk, IfSome, IfNone, OnOk};
 ghost use Rattle.std.specs.List.Sorted.{IsStrictlyIncreasing};
 ghost use Rattle.std.specs.FinSet as fin_set;
 ghost use Rattle.wic_base.specs.Sets.{AllBelow, HasFrom, HasMore};
+ghost use Rattle.wic_bitset.specs.Growth.{count_for};
 ghost use Rattle.wic_bitset.specs.Rising.{rising};
 ghost use Rattle.wic_bitset.specs.Room.{MakesRoomFor};
 ghost use Rattle.entity_set.specs.Entities.{MayGrow, TakesOut};
@@ -52,12 +53,13 @@ impl<K: EntityRef> EntitySet<K> {
         }
     }
 
-    /// The empty set with room for the keys whose numbers are below `n`, at most `MAX_CAPACITY` of wic_bitset. An `n` of 0 is never
-    /// refused.
+    /// The empty set with room for the keys whose numbers are below `n`, at most `MAX_CAPACITY` of wic_bitset: as many words of 64
+    /// numbers as the rule of growth gives. An `n` of 0 is never refused.
     pub fn with_capacity(alloc: Global, n: usize) -> Result<EntitySet<K>, OutOfMemory>
         requires within { n ≤ max_capacity }
         ensures members { IfOk result (λ set. set.members ≡ fin_set.empty) }
         ensures capacity { IfOk result (λ set. n ≤ set.capacity) }
+        ensures grown { IfOk result (λ set. set.capacity ≡ count_for 64 0 n * 64) }
         ensures zero_never_refused { n ≡ 0 → IsOk result }
     {
         let bits = CompoundBitSet::with_capacity(alloc, n)?;

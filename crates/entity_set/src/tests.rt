@@ -39,14 +39,15 @@ fn hash_of(set: &EntitySet<Block>) -> u64 {
     hasher.finish()
 }
 
-// Puts three keys in, and asks for room.
+// Puts three keys in, and asks for room: 4 words of 64 numbers at first, then 11 for the number 700, then twice as many.
 fn keys_come(rt: &impl Abort, set: &mut EntitySet<Block>) -> Result<(), Fail> {
-    assert!(rt; set.capacity() >= 8);
+    assert_eq!(rt; set.capacity(), 256);
     for number in [5, 1, 700] {
         assert!(rt; set.insert(Block(number))?);
     }
+    assert_eq!(rt; set.capacity(), 704);
     set.ensure_capacity(1000)?;
-    assert!(rt; set.capacity() >= 1000);
+    assert_eq!(rt; set.capacity(), 1408);
     assert!(rt; has_just(set, &[1, 5, 700]));
     Ok(())
 }
