@@ -2,7 +2,10 @@
 ghost use Rattle.std.specs.Prelude.{⊤, None};
 
 use crate::program::{run_in_room, vector_of};
-use batch_script::{CountSink, Device, Failed, MemSink, PlainSource, Sink, Source, Status, top};
+use batch_script::{
+    CountSink, Device, Failed, MemSink, PlainSource, ReadEnd, Sink, Source, Status, read_input,
+    top, write_text,
+};
 use std::test::Fail;
 use wic_vec::TryVec;
 
@@ -140,6 +143,52 @@ fn reads_ask_for_4096_bytes_and_end_at_the_end(rt: HostRuntime) -> Result<(), Fa
 fn no_text_makes_no_write(rt: HostRuntime) -> Result<(), Fail> {
     let answer = run_in_room(rt.alloc(), 100, &[], b"", &[], &[1])?;
     assert_eq!(rt; answer.status, Status::Done);
+    Ok(())
+}
+
+#[test]
+fn a_text_is_offered_whole(rt: HostRuntime) -> Result<(), Fail> {
+    let alloc = rt.alloc();
+    let mut sink = MemSink::new(alloc, 100, 100, vector_of(alloc, &[2])?)?;
+    assert_eq!(rt; write_text("ten bytes!", &mut sink), Ok(()));
+    assert_eq!(rt; sink.bytes(), b"ten bytes!".as_slice());
+    Ok(())
+}
+
+/// A source with no end, which counts its reads.
+#[derive(Drop)]
+struct Endless {
+    reads: u64,
+}
+
+impl Device for Endless {
+    ghost faults = { λ _. 0 };
+
+    ghost can_call = { λ _. ⊤ };
+
+    ghost reaches = { λ _ _ _. ⊤ };
+
+    ghost stays = { λ _. tt };
+
+    ghost goes_on = { λ _ _ _ _ _ _ _. tt };
+}
+
+impl Source for Endless {
+    ghost left = { λ _. None };
+
+    fn read(&mut self, buf: &mut [u8]) -> Result<usize, Failed> {
+        self.reads = self.reads.saturating_add(1);
+        Ok(buf.len())
+    }
+}
+
+// 16384 pieces of 4096 bytes are the limit, and one more is above it.
+#[test]
+fn an_input_above_the_limit_is_read_no_further(rt: HostRuntime) -> Result<(), Fail> {
+    let mut source = Endless { reads: 0 };
+    let ended = read_input(rt.alloc(), &mut source).err();
+    assert_eq!(rt; ended, Some(ReadEnd::TooLong));
+    assert_eq!(rt; source.reads, 16385);
     Ok(())
 }
 

@@ -22,3 +22,17 @@ fn status_of(error: io::Error) -> Status {
         _ => Status::Usage,
     }
 }
+
+#[cfg(test)]
+mod tests {
+    use super::status_of;
+    use batch_script::Status;
+    use std::io::{Error, ErrorKind};
+
+    #[test]
+    fn no_memory_for_the_words_is_told_from_a_word_that_is_no_text(rt: HostRuntime) {
+        let status = |kind| status_of(Error::from(kind));
+        assert_eq!(rt; status(ErrorKind::OutOfMemory), Status::Oom);
+        assert_eq!(rt; status(ErrorKind::InvalidData), Status::Usage);
+    }
+}
