@@ -134,7 +134,10 @@ fn rest_is_printed(
 ) -> Result<(), Fail> {
     put(set, &[444, 555, 666, 777])?;
     assert!(rt; set.remove(777));
-    assert_eq!(rt; text_of(alloc, set)?.as_str(), "CompoundBitSet {444, 555, 666}");
+    assert_eq!(rt;
+        text_of(alloc, set)?.as_str(),
+        "CompoundBitSet {444, 555, 666}"
+    );
     Ok(())
 }
 
