@@ -18,13 +18,13 @@ use Rattle.batch_core.proofs.BackFacts.{admitted}
 use Rattle.batch_core.proofs.CourseFacts.{batch_course-length}
 
 -- what holds if there is none
-if_none_then : {A P : Type 0} (o : Option A) → (o ≡ None → P) → IfNone o P
+pub if_none_then : {A P : Type 0} (o : Option A) → (o ≡ None → P) → IfNone o P
 if_none_then None p = p refl
 if_none_then (Some x) p = tt
 
 module _ {X : Type 0} where
   -- a value that is written makes at most one key more
-  len-insert_most : (m : FinMap nat_cmp X) (k : ℕ) (v : X) → len (insert m k v) ≤ len m + 1
+  pub len-insert_most : (m : FinMap nat_cmp X) (k : ℕ) (v : X) → len (insert m k v) ≤ len m + 1
   len-insert_most m k v = ⊎_elim
       (λ there. omega (arith, len-insert_again m k v there))
       (λ new. omega (arith, len-insert_new m k v new))
@@ -38,7 +38,7 @@ module _ {X : Type 0} where
     pub records : count + length contents.list + total_of pushed_by commands ≤ counts.commands + counts.values
 
   -- values cut off are gone from the list, and a push makes it one longer
-  values_after : (c : Contents X) (command : Command X)
+  pub values_after : (c : Contents X) (command : Command X)
       → cut_by c command + length (effect_of c command).list ≤ length c.list + pushed_by command
   values_after c (Push value) = omega (arith, length-append c.list (value ∷ []))
   values_after c Pop = omega (arith, length-take (length c.list - 1) c.list)
@@ -51,7 +51,7 @@ module _ {X : Type 0} where
   values_after c (Truncate kept) = omega (arith, length-take kept c.list)
 
   -- an admitted command leaves at most as many ids as it found, and one more if it allocates
-  ids_after : (c : Contents X) (command : Command X) → cause_of c command ≡ None
+  pub ids_after : (c : Contents X) (command : Command X) → cause_of c command ≡ None
       → len (effect_of c command).live ≤ len c.live + allocated_by command
   ids_after c (Push value) none = omega arith
   ids_after c Pop none = omega arith

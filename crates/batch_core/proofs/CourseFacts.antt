@@ -39,7 +39,7 @@ if_none_more None P Q more here = more here
 if_none_more (Some cause) P Q more here = tt
 
 -- if there is no bad command, the first one has no cause, and there is none after it
-none_first : (o : Option Cause) (later : Option BadCommand) → front_or_later o later ≡ None → (o ≡ None) × (later ≡ None)
+pub none_first : (o : Option Cause) (later : Option BadCommand) → front_or_later o later ≡ None → (o ≡ None) × (later ≡ None)
 none_first None None none = (refl, refl)
 none_first None (Some bad) none = absurd (cc)
 none_first (Some cause) later none = absurd (cc)

@@ -4,6 +4,7 @@ pub mod CourseFacts
 pub mod FrameFacts
 pub mod LawFacts
 pub mod LineFacts
+pub mod NestCountFacts
 pub mod NestFacts
 pub mod OpenFacts
 pub mod OutcomeFacts

@@ -9,7 +9,8 @@ use Rattle.batch_core.specs.declared.command.End.TheVariants.{Commit, Abort}
 use Rattle.batch_nest.specs.declared.nest.NestLine.{NestLine}
 use Rattle.batch_nest.specs.declared.nest.NestLine.TheVariants.{Command as CommandLine, Begin as BeginLine}
 use Rattle.batch_nest.specs.declared.nest.NestLine.TheVariants.{Commit as CommitLine, Abort as AbortLine}
-use Rattle.batch_nest.specs.Nest.{Body, done, then_command, then_inner, nest_end, nest_lines, IsBalanced}
+use Rattle.batch_nest.specs.Nest.{Body, body_of, done, then_command, then_inner, nest_end, nest_lines, IsBalanced}
+use Rattle.batch_nest.proofs.SpaceFacts.{is_balanced}
 
 -- what comes after an inner body: its end, and what follows
 pub record Rest (X : Type 0) : Type 0 where
@@ -53,7 +54,7 @@ module _ {X : Type 0} where
   -- balanced lines close what they open
   pub closes_balanced : (lines : List (NestLine X)) → IsBalanced lines → Closes 0 lines
   closes_balanced lines balanced =
-      subst (Closes 0) (append-nil (nest_lines balanced.0) ∙ sym balanced.1) (closes_body balanced.0 0 [] refl)
+      subst (Closes 0) (append-nil (nest_lines (body_of lines)) ∙ sym balanced) (closes_body (body_of lines) 0 [] refl)
 
   -- lines that close so many bodies are those of a body and of what comes after the open ones
   abbrev Unfolds : ℕ → List (NestLine X) → Type 0
@@ -102,7 +103,7 @@ module _ {X : Type 0} where
   unfolds (suc depth) (AbortLine ∷ lines) closes = unfolds_end Abort depth lines (unfolds depth lines closes)
 
   balanced_of : (lines : List (NestLine X)) → Unfolds 0 lines → IsBalanced lines
-  balanced_of lines (body, [], many, is) = (body, is)
+  balanced_of lines (body, [], many, is) = is_balanced lines body is
   balanced_of lines (body, rest ∷ rests, many, is) = absurd (omega (arith, many))
 
   -- lines that close what they open are balanced

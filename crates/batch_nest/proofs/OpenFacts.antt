@@ -11,7 +11,7 @@ use Rattle.batch_script.proofs.PrefixFacts.{HasWhole}
 use Rattle.batch_nest.specs.declared.nest.NestLine.{NestLine}
 use Rattle.batch_nest.specs.declared.nest.NestLine.TheVariants.{Command as CommandLine, Begin as BeginLine}
 use Rattle.batch_nest.specs.declared.nest.NestLine.TheVariants.{Commit as CommitLine, Abort as AbortLine}
-use Rattle.batch_nest.specs.Nest.{Body, IsBalanced, nest_lines, nest_end}
+use Rattle.batch_nest.specs.Nest.{Body, IsBalanced, body_of, nest_lines, nest_end}
 use Rattle.batch_nest.specs.Reading.{commits}
 use Rattle.batch_nest.specs.Script.{IsValidLine, nest_printing, printed_line}
 use Rattle.batch_nest.proofs.LineFacts.{Closes, Steps, balanced_closes, closes_balanced}
@@ -86,11 +86,12 @@ never_closed : (lines : List (NestLine ℕ)) (depth : ℕ) (body : Body ℕ) (en
     → IsOpenAt lines depth → lines ≡ closed_lines body ending ++ behind → ⊥
 never_closed lines depth body ending behind opened is =
     let more = behind ++ commits depth in
-    let same : nest_lines body ++ nest_end ending ∷ more ≡ nest_lines opened.0 ++ [] =
+    let whole = body_of (lines ++ commits depth) in
+    let same : nest_lines body ++ nest_end ending ∷ more ≡ nest_lines whole ++ [] =
     sym (append_assoc (nest_lines body) (nest_end ending ∷ []) more)
     ∙ (sym (append_assoc (closed_lines body ending) behind (commits depth))
-    ∙ (ap (λ l. l ++ commits depth) (sym is) ∙ (opened.1 ∙ sym (append-nil (nest_lines opened.0))))) in
-    let none = (tells body opened.0 (nest_end ending ∷ more) [] (ends_at ending more) tt same).1 in
+    ∙ (ap (λ l. l ++ commits depth) (sym is) ∙ (opened ∙ sym (append-nil (nest_lines whole))))) in
+    let none = (tells body whole (nest_end ending ∷ more) [] (ends_at ending more) tt same).1 in
     cc
 
 -- the line is the print of a line of a nest

@@ -20,7 +20,7 @@ use Rattle.batch_nest.specs.declared.nest.NestLine.TheVariants.{Command as Comma
 use Rattle.batch_nest.specs.declared.nest.NestLine.TheVariants.{Commit as CommitLine, Abort as AbortLine}
 use Rattle.batch_nest.specs.declared.parser.NestReading.{NestReading}
 use Rattle.batch_nest.specs.declared.parser.OpenNest.{OpenNest}
-use Rattle.batch_nest.specs.Nest.{IsBalanced, nest_end}
+use Rattle.batch_nest.specs.Nest.{IsBalanced, body_of, nest_end}
 use Rattle.batch_nest.specs.Reading.{HasReadNests, HaveRead, IsOpenNest, StandFor, StandsForItem, TakesNestLine, open_printing}
 use Rattle.batch_nest.specs.ReadingLaws.{one_line_word}
 use Rattle.batch_nest.specs.Script.{PlainNestItem, IsNestOpen, IsNestScript, IsValidLine}
@@ -96,13 +96,13 @@ takes_end_word old new Abort word numbers = takes_parts old new AbortLine word n
 -- the end of the nest that has begun
 pub read_nest_end : (items : List NestItem) (item : NestItem) (begun : OpenNest) (lines : List Line) (ending : End)
     → HaveRead items (Some begun) lines → begun.depth ≡ 0
-    → ((balanced : IsBalanced begun.lines.items) → StandsForItem item (batch balanced.0 ending))
+    → ((balanced : IsBalanced begun.lines.items) → StandsForItem item (batch (body_of begun.lines.items) ending))
     → HaveRead (items ++ item ∷ []) None (lines ++ printed_line (nest_end ending) ∷ [])
 read_nest_end items item begun lines ending was none stands =
     let balanced = balanced_at_none begun.lines.items begun.depth none was.2.valid_open.balanced in
-    ends_item items (Some begun) item (batch balanced.0 ending) lines (printed_line (nest_end ending)) was (stands balanced)
-    (subst (AllByRecursion IsValidLine) balanced.1 was.2.valid_open.valid)
-    (λ i. codes "begin" ∷ (map printed_line (balanced.1 i) ++ printed_end ending i ∷ []))
+    ends_item items (Some begun) item (batch (body_of begun.lines.items) ending) lines (printed_line (nest_end ending)) was (stands balanced)
+    (subst (AllByRecursion IsValidLine) balanced was.2.valid_open.valid)
+    (λ i. codes "begin" ∷ (map printed_line (balanced i) ++ printed_end ending i ∷ []))
 
 -- a word and numbers that are no command, end no batch and begin none are no line of a nest
 pub no_line_word : (word numbers : List ℕ) → ((command : Command ℕ) → numbers_of command ≡ numbers → word_of command ≢ word)

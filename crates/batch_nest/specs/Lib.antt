@@ -1,5 +1,6 @@
 -- Batches within batches: bodies, what they come to, what the results of a nest say, and scripts of nests.
 pub mod Applied
+pub mod Counts
 pub mod Laws
 pub mod Nest
 pub mod Program

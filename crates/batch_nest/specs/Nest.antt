@@ -16,6 +16,11 @@ pub data Body (T : Type 0) : Type 0 where
   then_command : Command T → Body T → Body T
   then_inner : Body T → End → Body T → Body T
 
+-- lines read from the last one: the body that they begin with, and each end behind it that has no begin, with what follows it
+pub record FromLast (T : Type 0) : Type 0 where
+  pub body : Body T
+  pub outer : List (End × Body T)
+
 module _ {T : Type 0} where
   -- the line that ends an inner body
   abbrev pub nest_end : End → NestLine T
@@ -28,9 +33,30 @@ module _ {T : Type 0} where
   nest_lines (then_command command later) = CommandLine command ∷ nest_lines later
   nest_lines (then_inner inner ending later) = BeginLine ∷ nest_lines inner ++ nest_end ending ∷ nest_lines later
 
-  -- each end closes an earlier begin, and none stays open: the lines are those of a body
+  -- a begin before such lines takes the first of these ends
+  abbrev pub with_begin : Body T → List (End × Body T) → FromLast T
+  with_begin inner [] = record { body = inner; outer = [] }
+  with_begin inner ((ending, later) ∷ outer) = record { body = then_inner inner ending later; outer = outer }
+
+  -- an end before such lines has no begin yet
+  abbrev pub with_end : End → FromLast T → FromLast T
+  with_end ending later = record { body = done; outer = (ending, later.body) ∷ later.outer }
+
+  -- lines are read from the last one
+  abbrev pub from_last : List (NestLine T) → FromLast T
+  from_last [] = record { body = done; outer = [] }
+  from_last (CommandLine command ∷ lines) = record (from_last lines) { body = then_command command (from_last lines).body }
+  from_last (BeginLine ∷ lines) = with_begin (from_last lines).body (from_last lines).outer
+  from_last (CommitLine ∷ lines) = with_end Commit (from_last lines)
+  from_last (AbortLine ∷ lines) = with_end Abort (from_last lines)
+
+  -- the body that lines lead to
+  abbrev pub body_of : List (NestLine T) → Body T
+  body_of lines = (from_last lines).body
+
+  -- each end closes an earlier begin, and none stays open: the lines are those of a body, and so of the one that they lead to
   abbrev pub IsBalanced : List (NestLine T) → Type 0
-  IsBalanced lines = (body : Body T) × (lines ≡ nest_lines body)
+  IsBalanced lines = lines ≡ nest_lines (body_of lines)
 
   -- how many of the lines are commands
   abbrev pub command_lines : List (NestLine T) → ℕ

@@ -11,7 +11,7 @@ use Rattle.batch_nest.specs.declared.nest.NestLine.{NestLine}
 use Rattle.batch_nest.specs.declared.nest.NestLine.TheVariants.{Command as CommandLine, Begin as BeginLine}
 use Rattle.batch_nest.specs.declared.nest.NestLine.TheVariants.{Commit as CommitLine, Abort as AbortLine}
 use Rattle.batch_nest.specs.declared.parser.NestReading.{NestReading}
-use Rattle.batch_nest.specs.Nest.{nest_lines}
+use Rattle.batch_nest.specs.Nest.{body_of, nest_lines}
 use Rattle.batch_nest.specs.Reading.{HasReadNests, commits, open_printing}
 use Rattle.batch_nest.specs.Script.{IsNestOpen, IsValidLine, line_numbers, line_word, nest_printing, printed_line}
 
@@ -51,15 +51,15 @@ nests_can_end : CanEnd nest_printing open_printing
 nests_can_end begun valid =
     let front = begun.lines.items in
     let ends = commits begun.depth in
-    let body = valid.balanced.0 in
+    let body = body_of (front ++ ends) in
     let last = end_line Commit ∷ [] in (
       body,
       Commit,
       map printed_line ends ++ last,
-      subst (AllByRecursion IsValidLine) valid.balanced.1
+      subst (AllByRecursion IsValidLine) valid.balanced
           (AllByRecursion-append IsValidLine front ends valid.valid (commits_are_valid begun.depth)),
       sym (append_assoc (map printed_line front) (map printed_line ends) last)
-          ∙ ap (λ lines. lines ++ last) (sym (map-append printed_line front ends) ∙ ap (map printed_line) valid.balanced.1),
+          ∙ ap (λ lines. lines ++ last) (sym (map-append printed_line front ends) ∙ ap (map printed_line) valid.balanced),
     )
 
 -- what was read begins a script of nests

@@ -1,12 +1,16 @@
 //! Callers of nests, proved from the contracts alone.
-ghost use Rattle.std.specs.Prelude.{◌≡◌, ◌++◌, IfOk, IfErr, OnOk, OnErr};
+ghost use Rattle.std.specs.Prelude.{◌≡◌, ◌+◌, ◌≤◌, ◌++◌, ◌∷◌, [], IfOk, IfErr, OnOk, OnErr};
+ghost use Rattle.std.specs.FinMap.{len};
 ghost use Rattle.batch_core.specs.Command.{effect_of, records_of};
 ghost use Rattle.batch_core.specs.Workspace.{IsOom};
+ghost use Rattle.batch_core.specs.declared.command.Command.{Command};
+ghost use Rattle.batch_nest.specs.declared.nest.NestLine.{NestLine};
 ghost use Rattle.batch_nest.specs.Applied.{OfBody, FitsNest};
+ghost use Rattle.batch_nest.specs.Laws.{plain_lines};
 ghost use Rattle.batch_nest.specs.Nest.{IsBalanced, nest_lines};
 ghost use Rattle.batch_nest.specs.Savepoint.{around_savepoint};
 
-use crate::laws::law_larger_room;
+use crate::laws::{law_balanced, law_larger_room, law_nest_counts_are_enough};
 use crate::nest::{Nest, NestLine};
 use crate::space::NestSpace;
 use batch_core::{Cause, Command, Done, End, Refusal, ReserveRefusal};
@@ -57,6 +61,7 @@ pub fn go_on_from_savepoint<T: Drop>(
             });
         }
     };
+    law_balanced::<T>();
     space.apply(Nest {
         lines,
         end: End::Commit,
@@ -76,4 +81,33 @@ pub fn reserve_and_apply<T: Drop>(
     space.reserve(n)?;
     law_larger_room::<T>();
     Ok(space.apply(nest))
+}
+
+// Does a nest whose lines are these commands and no others, and gives it up: such lines are balanced, and the contents stay.
+pub fn give_up_commands<T: Drop>(
+    space: &mut NestSpace<T>,
+    lines: TryVec<NestLine<T>>,
+    commands: &[Command<T>],
+) -> Result<Done, Refusal>
+    requires plain { lines.items ≡ plain_lines commands.now }
+    ensures contents { space.new.contents ≡ space.old.contents }
+{
+    law_balanced::<T>();
+    space.apply(Nest {
+        lines,
+        end: End::Abort,
+    })
+}
+
+// Holds a value around an inner batch that holds another one and gives it up, where there is room for two more: memory doesn't refuse
+// it.
+pub fn hold_around_abort(space: &mut NestSpace<u64>, nest: Nest<u64>) -> Result<Done, Refusal>
+    requires lines { nest.lines.items ≡ NestLine.Command (Command.Alloc 1) ∷ NestLine.Begin
+        ∷ NestLine.Command (Command.Alloc 2) ∷ NestLine.Abort ∷ [] }
+    requires room { len space.old.contents.live + 2 ≤ space.old.room }
+    ensures never_oom { IfErr result (λ r. ¬ IsOom r.cause) }
+{
+    law_balanced::<u64>();
+    law_nest_counts_are_enough::<u64>();
+    space.apply(nest)
 }

@@ -14,9 +14,10 @@
 //! then applies a nest that fits it: memory doesn't refuse it.
 //!
 //! `specs/Nest` says what a nest is: its lines are those of a body, a tree of commands and inner bodies, and `nest_course` gives
-//! each command the contents in which it stands. `apply` asks for balanced lines, and `Nest::is_balanced` tests them. The laws in
-//! [`laws`] say that a nest without inner batches has the course of the batch of its commands, that committed inner batches change
-//! nothing, what an inner abort leaves, that lines tell their body, and that a nest that fits a room fits every larger one.
+//! each command the contents in which it stands. `apply` asks for balanced lines, and `Nest::is_balanced` tests them; lines that are
+//! known need no test (`law_balanced`). The laws in [`laws`] say that a nest without inner batches has the course of the batch of its
+//! commands, that committed inner batches change nothing, what an inner abort leaves, that lines tell their body, and which rooms a
+//! nest fits.
 //!
 //! A script of nests is a script whose batches are nests: `nest_parse` returns its items, `nest_run` the text of its replies, and
 //! `nest_top` is the whole program, for which any word asks for the usage. `specs/Script` says what they are by the definitions of
@@ -51,7 +52,8 @@ mod tests;
 
 pub use item::{NestItem, NestScript};
 pub use laws::{
-    law_all_committed, law_inner_abort, law_larger_room, law_one_body, law_without_inner,
+    law_all_committed, law_balanced, law_inner_abort, law_larger_room, law_nest_counts_are_enough,
+    law_one_body, law_one_nest_run, law_one_nest_script, law_plain_nest_run, law_without_inner,
 };
 pub use nest::{Nest, NestLine};
 pub use parser::nest_parse;

@@ -76,6 +76,9 @@ pub fn nest_top<S: Source, K: Sink>(
     // How often is read: at most this often, and not at all if there are words.
     ensures reads { AtMost (INPUT_LIMIT + 1) S.reaches source.old source.new }
     ensures source_stays { words.now.items ≢ [] → source.new ≡ source.old }
+
+    // Another text may follow to the same sink, unless a write failed.
+    ensures can_write_again { result ≢ Status.WriteFault → K.can_call sink.new }
 {
     serve::<Nests, S, K>(alloc, words, source, sink)
 }

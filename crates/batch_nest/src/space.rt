@@ -7,7 +7,8 @@ ghost use Rattle.batch_core.specs.State.{no_contents};
 ghost use Rattle.batch_core.specs.Back.{Grows, back};
 ghost use Rattle.batch_core.specs.Batch.{first_bad};
 ghost use Rattle.batch_core.specs.Workspace.{IsOom};
-ghost use Rattle.batch_nest.specs.Nest.{IsBalanced, command_lines, nest_course};
+ghost use Rattle.batch_nest.specs.Nest.{IsBalanced, body_of, command_lines, nest_course};
+ghost use Rattle.batch_core.specs.declared.command.End.{End};
 ghost use Rattle.batch_nest.specs.Applied.{OfBody, FitsNest, IsNestApplied};
 
 use crate::levels::{Levels, counts_of};
@@ -144,9 +145,44 @@ impl<T: Drop> NestSpace<T> {
     /// `Begin` lines than the room, and at a later one only if that one or one before it passes the room and none of them is
     /// bad. What was done until then is undone without an allocation. Capacities that have grown stay.
     ///
+    /// A caller that knows the lines has what the clauses say of the body that they lead to, `body_of`, which computes.
+    ///
     /// It takes the time of the commands, and for each inner `Abort` that of the records that it undoes; a mark of 8 bytes per
     /// open batch, and no stack of the machine.
     pub fn apply(&mut self, nest: Nest<T>) -> Result<Done, Refusal>
+        requires balanced { IsBalanced nest.lines.items }
+        ensures applied { OfBody nest.lines.items (λ body.
+            IsNestApplied self.old body nest.end result self.new) }
+        ensures commit_leaves { nest.end ≡ End.Commit → OnOk result (self.new.contents
+            ≡ (nest_course self.old.contents (body_of nest.lines.items)).after) }
+        ensures commit_records { nest.end ≡ End.Commit → OnOk result (self.new.records
+            ≡ (nest_course self.old.contents (body_of nest.lines.items)).records) }
+        ensures refusal_leaves { OnErr result (self.new.contents ≡ self.old.contents) }
+        ensures abort_leaves { nest.end ≡ End.Abort → self.new.contents ≡ self.old.contents }
+        ensures at_from_one { IfErr result (λ r. ¬ IsOom r.cause → 1 ≤ r.at) }
+        ensures at_within { IfErr result (λ r. r.at ≤ command_lines nest.lines.items) }
+        ensures never_oom_within { OfBody nest.lines.items (λ body.
+            FitsNest self.old.room self.old.contents body → IfErr result (λ r. ¬ IsOom r.cause)) }
+        ensures never_refused_within { OfBody nest.lines.items (λ body.
+            FitsNest self.old.room self.old.contents body
+            → first_bad (nest_course self.old.contents body).stands ≡ None → IsOk result) }
+        ensures applied_lines { IsNestApplied self.old (body_of nest.lines.items) nest.end
+            result self.new }
+        ensures never_oom_within_lines { FitsNest self.old.room self.old.contents
+            (body_of nest.lines.items) → IfErr result (λ r. ¬ IsOom r.cause) }
+        ensures never_refused_within_lines { FitsNest self.old.room self.old.contents
+            (body_of nest.lines.items)
+            → first_bad (nest_course self.old.contents (body_of nest.lines.items)).stands ≡ None
+            → IsOk result }
+        ensures back { back self.new.contents self.new.records 0 ≡ self.old.contents }
+        ensures room { self.new.room ≡ self.old.room }
+        ensures grows { Grows self.old.capacities self.new.capacities }
+    {
+        self.apply_body(nest)
+    }
+
+    // Does a nest: what is said of its body, whichever it is.
+    fn apply_body(&mut self, nest: Nest<T>) -> Result<Done, Refusal>
         requires balanced { IsBalanced nest.lines.items }
         ensures applied { OfBody nest.lines.items (λ body.
             IsNestApplied self.old body nest.end result self.new) }

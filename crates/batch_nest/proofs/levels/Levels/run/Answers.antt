@@ -4,7 +4,7 @@ use Rattle.batch_core.specs.Back.{undo_all}
 use Rattle.batch_core.specs.declared.command.End.TheVariants.{Commit, Abort}
 use Rattle.batch_nest.specs.declared.nest.NestLine.TheVariants.{Command as CommandLine, Begin as BeginLine}
 use Rattle.batch_nest.specs.declared.nest.NestLine.TheVariants.{Commit as CommitLine, Abort as AbortLine}
-use Rattle.batch_nest.specs.Nest.{begin_lines, command_lines}
+use Rattle.batch_nest.specs.Nest.{begin_lines, body_of, command_lines}
 use Rattle.batch_nest.proofs.CountFacts.{grows_twice, grows_kept}
 use Rattle.batch_nest.proofs.CourseFacts.{count_stands}
 use Rattle.batch_nest.proofs.NestFacts.{inside_at, inside_first, inside_command, inside_begin, inside_commit, inside_abort}
@@ -39,7 +39,8 @@ pub returns-in-Err-clause-back : goal.returns-in-Err-clause-back
 returns-in-Err-clause-back g c =
     let kept = c.in-Err.ensures.refusal_leaves in
     let balanced = c.requires.balanced in
-    (λ i. undo_all (kept.records i) (kept.contents i)) ∙ (c.loop-line.invariant.inside balanced.0 balanced.1).along.along.back
+    (λ i. undo_all (kept.records i) (kept.contents i))
+    ∙ (c.loop-line.invariant.inside (body_of c.args.lines.items) balanced).along.along.back
 
 pub loop-line-preserved-in_default : goal.loop-line-preserved-in_default
 loop-line-preserved-in_default g c =
@@ -95,7 +96,8 @@ loop-line-preserved-in-Commit g c =
     let split = steps.0 ∙ ap (λ x. x ∷ rest) c.in-Commit.is in
     let balanced = c.requires.balanced in
     let popped = pop_found c.pop.result old new c.pop.ensures.found c.pop.ensures.last
-    (mark_for_end Commit (inside_at c.in-Some.line CommitLine rest steps.0 c.in-Commit.is (inv.inside balanced.0 balanced.1))) in record {
+    (mark_for_end Commit (inside_at c.in-Some.line CommitLine rest steps.0 c.in-Commit.is
+    (inv.inside (body_of c.args.lines.items) balanced))) in record {
       inside = λ whole is. inside_commit new popped.0
           (inside_at c.in-Some.line CommitLine rest steps.0 c.in-Commit.is (inv.inside whole is)) popped.1;
       left = omega (arith, inv.left, steps.1, ap length steps.0);
@@ -119,7 +121,7 @@ back_to-requires g c =
     let balanced = c.requires.balanced in record {
       mark = mark_within c.pop-in-Abort.new.self.items c.in-Some-pop.start
           (inside_at c.in-Some.line AbortLine (into_iter_items c.next.new.self) c.in-Some.ensures.steps.0 c.in-Abort.is
-          (c.loop-line.invariant.inside balanced.0 balanced.1))
+          (c.loop-line.invariant.inside (body_of c.args.lines.items) balanced))
           c.in-Some-pop.ensures.last;
     }
 
@@ -156,7 +158,7 @@ pub loop-line-preserved : goal.loop-line-preserved
 loop-line-preserved g c =
     let balanced = c.requires.balanced in
     let here = inside_at c.in-Some.line AbortLine (into_iter_items c.next.new.self) c.in-Some.ensures.steps.0 c.in-Abort.is
-    (c.loop-line.invariant.inside balanced.0 balanced.1) in
+    (c.loop-line.invariant.inside (body_of c.args.lines.items) balanced) in
     absurd (none_found c.pop-in-Abort.result c.loop-line.self.marks.items c.in_default-pop.is c.pop-in-Abort.ensures.found
     (mark_for_end Abort here))
 
@@ -167,7 +169,7 @@ returns-clause-through g c whole is =
 
 pub returns-clause-back : goal.returns-clause-back
 returns-clause-back g c =
-    let balanced = c.requires.balanced in (c.loop-line.invariant.inside balanced.0 balanced.1).along.along.back
+    let balanced = c.requires.balanced in (c.loop-line.invariant.inside (body_of c.args.lines.items) balanced).along.along.back
 
 pub returns-in-Err-clause-at_within : goal.returns-in-Err-clause-at_within
 returns-in-Err-clause-at_within g c =

@@ -39,6 +39,6 @@ returns-in-Some-take c =
           (subst (λ items. HaveRead items None (lines ++ line ∷ [])) (sym last)
           (read_nest_end items (Nest (record { lines = taken; end = c.args.end })) begun lines c.args.end
           (subst (λ begun. HaveRead items begun lines) c.in-Some.is was)
-          (omega (arith, c.if-begun-gt0.false)) (λ balanced. (taken_is ∙ balanced.1, refl)))))
+          (omega (arith, c.if-begun-gt0.false)) (λ balanced. (taken_is ∙ balanced, refl)))))
           c.push.ensures.last;
     }
