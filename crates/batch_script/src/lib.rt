@@ -31,7 +31,7 @@
 //!
 //! **What it costs.** Time in proportion to input and output; each byte of the input is read once. Memory for the input, for 24 bytes
 //! per command of the script and 24 per record of the largest batch, for what is held, and for the text. Nothing is allocated per
-//! line or number beyond that, but for a refusal with a cause, whose line makes an error and a text. At most 67108865 reads give
+//! line or number beyond that, but for a refusal with a cause, whose line makes an error. At most 67108865 reads give
 //! bytes, and at most as many writes take bytes as the text has.
 //!
 //! **When memory runs out.** A batch or a reservation beyond the room may be refused with `refused: out of memory`; it leaves no
