@@ -4,7 +4,7 @@ use Rattle.std.specs.List.{AllByRecursion}
 use Rattle.wic_slab.specs.Order.{max_capacity}
 use Rattle.batch_core.specs.State.{State, empty_state}
 use Rattle.batch_script.specs.Machine.{ItemOf, PlainItem, reserve, show, batch, Bodies, batches, Reply, reserved, AsksForMore, IsPlain}
-use Rattle.batch_script.specs.Machine.{FitsOver, step_over, replies_over, RunOver}
+use Rattle.batch_script.specs.Machine.{FitsOver, step_over, replies_over, RunOver, Run}
 use Rattle.batch_script.specs.Grammar.{Printing, batch_printing, IsValidItemOver, all_lines_over}
 use Rattle.batch_script.specs.Reply.{text_of}
 
@@ -64,11 +64,15 @@ LinesTellItems = LinesTellItemsOver batch_printing
 
 -- items that are run to one text were given the same replies
 abbrev pub TextTellsRun : Type 0
-TextTellsRun = TextTellsRunOver batches
+TextTellsRun = (items : List PlainItem) (replies others : List Reply) → Run empty_state items replies → Run empty_state items others
+    → text_of replies ≡ text_of others → replies ≡ others
 
 -- a run is the plain one if its first item reserves all the room that its items need, and is answered so
 abbrev pub RoomMakesPlain : Type 0
-RoomMakesPlain = RoomMakesPlainOver batches
+RoomMakesPlain = (room : ℕ) (items : List PlainItem) (replies : List Reply) → room ≤ max_capacity
+    → Run empty_state (reserve room ∷ items) (reserved ∷ replies)
+    → AllByRecursion (AsksForNoMore room) items → BatchesFit batches room empty_state (reserve room ∷ items)
+    → IsPlainRunOver batches (reserve room ∷ items) (reserved ∷ replies)
 
 -- the items have exactly one run in which nothing is refused for memory
 abbrev pub HasOnePlainRun : List PlainItem → Type 0

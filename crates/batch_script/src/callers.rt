@@ -1,10 +1,14 @@
 //! Callers of the program, proved from its contract alone.
-ghost use Rattle.std.specs.Prelude.{◌≡◌, ◌≢◌, ◌⊎◌, ◌≤◌, ◌∷◌, ◌++◌, ℕ, List, [], codes, length, Some, IfOk, OnOk};
-ghost use Rattle.batch_core.specs.State.{no_contents};
+ghost use Rattle.std.specs.Prelude.{◌≡◌, ◌≢◌, ◌⊎◌, ◌≤◌, ◌∷◌, ◌++◌, ℕ, List, [], codes, length, Some, IfOk, IsTrue, OnOk};
+ghost use Rattle.std.specs.List.{AllByRecursion};
+ghost use Rattle.wic_slab.specs.Order.{max_capacity};
+ghost use Rattle.batch_core.specs.State.{empty_state, no_contents};
 ghost use Rattle.batch_script.specs.Device.{HasFaults, use_of};
 ghost use Rattle.batch_script.specs.Grammar.{IsScript, IsScriptOf};
 ghost use Rattle.batch_script.specs.Headline.{RunsWhole, WantsMemory};
-ghost use Rattle.batch_script.specs.Machine.{PlainItem};
+ghost use Rattle.batch_script.specs.Laws.{AsksForNoMore, BatchesFit};
+ghost use Rattle.batch_script.specs.Machine.{PlainItem, Reply, Run, batches, plain_replies, reserve, reserved};
+ghost use Rattle.batch_script.specs.Reply.{text_of};
 ghost use Rattle.batch_script.specs.RunText.{HoldsReplies};
 ghost use Rattle.batch_script.specs.Status.{IsAmong};
 ghost use Rattle.batch_script.specs.Words.{AsksForRun};
@@ -13,6 +17,7 @@ ghost use Rattle.batch_script.specs.declared.program.TheConstants.{INPUT_LIMIT};
 
 use crate::batches::top;
 use crate::device::{Failed, Sink, Source};
+use crate::laws::{law_one_run, law_plain_run};
 use crate::memory_device::{MemSink, MemSource};
 use crate::program::{Status, write_text};
 use crate::reply::push_contents;
@@ -101,6 +106,28 @@ pub fn serve_both<S: Source, K: Sink>(
         Status::WriteFault => Status::WriteFault,
         _ => top(alloc, &TryVec::new(alloc), second, sink),
     }
+}
+
+/// Whether two texts are equal: if they are those of two runs of the same items, the replies were the same.
+pub fn same_replies(first: &TryString, second: &TryString) -> bool
+    ensures told { (items : List PlainItem) (replies others : List Reply)
+        → Run empty_state items replies → Run empty_state items others
+        → first.now.bytes ≡ text_of replies → second.now.bytes ≡ text_of others
+        → IsTrue result → replies ≡ others }
+{
+    law_one_run();
+    first == second
+}
+
+/// The replies to a script that reserves all its room first are known from its items alone, once the first reply is `reserved`.
+pub fn replies_are_known()
+    ensures known { (room : ℕ) (items : List PlainItem) (replies : List Reply)
+        → room ≤ max_capacity → Run empty_state (reserve room ∷ items) (reserved ∷ replies)
+        → AllByRecursion (AsksForNoMore room) items
+        → BatchesFit batches room empty_state (reserve room ∷ items)
+        → reserved ∷ replies ≡ plain_replies empty_state (reserve room ∷ items) }
+{
+    law_plain_run();
 }
 
 /// Puts a member into an empty workspace, holds a value, and shows both: the text is known, letter by letter.
